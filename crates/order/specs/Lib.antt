@@ -1,0 +1,3 @@
+pub mod Levels
+pub mod Supplied
+pub mod Joins

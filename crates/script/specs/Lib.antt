@@ -1,0 +1,9 @@
+pub mod Faults
+pub mod Bytes
+pub mod Readers
+pub mod Classes
+pub mod Bodies
+pub mod Layout
+pub mod Rows
+pub mod Reading
+pub mod Drafts
