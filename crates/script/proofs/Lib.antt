@@ -1,3 +1,14 @@
 pub mod Fronts
 pub mod Nesting
 pub mod Drafting
+pub mod Spelling
+pub mod Lines
+pub mod Rowing
+pub mod Columns
+pub mod Saying
+pub mod Listing
+pub mod Following
+pub mod Feeding
+pub mod Exactly
+pub mod Depth
+pub mod Wider

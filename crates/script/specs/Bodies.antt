@@ -1,7 +1,7 @@
 -- When the statements of a method are a body: how branches nest, and where the one R stands.
 use mathlib.Core.Bool.{Bool, true, false, cond, not, _&&_}
 use mathlib.Core.List.{List, [], _∷_}
-use Prim.Native.Nat.{ℕ, zero, suc, pred, _+_, _-_}
+use Prim.Native.Nat.{ℕ, zero, suc, _+_, _-_}
 use lib.Dec.{ltb, leb}
 use lib.IntN.{pos}
 use lib.ListN.{length, getD, take}
@@ -76,8 +76,11 @@ stands body =
     let front = take (length body - 1) body in
     ltb 0 (length body) && (is-return (getD body (length body - 1) idle) && (no-return front && nested (length front) front 4 0 (length front)))
 
+-- of the first n statements, those whose branches reach the statement at `at`
+abbrev pub reaching : List Statement → ℕ → ℕ → ℕ
+reaching body at zero = 0
+reaching body at (suc n) = cond (ltb at (n + 1 + branch-rows (getD body n idle))) 1 0 + reaching body at n
+
 -- the number of branches that the statement at `at` stands in: the I statements before it whose branches reach it
 abbrev pub depth-at : List Statement → ℕ → ℕ
-depth-at [] at = 0
-depth-at (s ∷ ss) zero = 0
-depth-at (s ∷ ss) (suc at) = cond (ltb at (branch-rows s)) (suc (depth-at ss at)) (depth-at ss at)
+depth-at body at = reaching body at at

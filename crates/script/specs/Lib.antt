@@ -7,3 +7,5 @@ pub mod Layout
 pub mod Rows
 pub mod Reading
 pub mod Drafts
+pub mod Laws
+pub mod Programs

@@ -13,13 +13,17 @@ ghost use Rattle.script.specs.Readers.{left, Ended};
 ghost use Rattle.script.specs.Classes.{classes-of};
 ghost use Rattle.script.specs.Reading.{entry-from, row-from, reading};
 ghost use Rattle.script.specs.Drafts.{draft-of, Does, Gives};
+ghost use Rattle.script.specs.Programs.{program-of};
+ghost use Rattle.script.specs.Laws.{Reads-exactly, One-text, Nests-four-deep};
 use crate::class::Class;
 use crate::draft::Draft;
 use crate::fault::LoadError;
 use crate::fault::RowFault;
+use crate::program::Program;
 use crate::reader::Reader;
 use crate::row::Entry;
 use crate::row::Place;
+use order::Order;
 use std::alloc::Global;
 use crate::fault::LoadErrorFromRow;
 use crate::fault::RowFaultFromByte;
@@ -53,4 +57,31 @@ fn read_row(reader: &mut Reader<'_>, levels: u8, draft: &mut Draft) -> Result<()
     let line = reader.line();
     let said = next_entry(reader, levels, draft.place())?;
     draft.take_in(line, said)
+}
+
+/// The classes that a text is read as under a count of levels.
+fn read(heap: Global, levels: u8, text: &[u8]) -> Result<Vec<Class>, LoadError>
+    ensures { λ r. ⌜ Gives (λ v. classes-of (vec-items v)) r (reading levels (now (text .entry))) ⌝ }
+{
+    let mut reader = open(text)?;
+    let mut draft = Draft::new(heap);
+    while !reader.is_at_end() {
+        read_row(&mut reader, levels, &mut draft)?;
+    }
+    draft.finish()
+}
+
+/// Loads a script text under an order of levels: the program that it is read as, or its first fault, or want of memory.
+///
+/// Besides, for the order's count of levels: a text is read as a program exactly when it is the text of a well-formed program's rows, and the
+/// program is that one; two texts that are read as the same program are the same text; and every statement of a text that is read as a
+/// program stands in at most four branches.
+pub fn load<O: Order>(heap: Global, order: &O, text: &[u8]) -> Result<Program, LoadError>
+    ensures reads { λ r. ⌜ Gives program-of r (reading (O·Order .levels (now (order .entry)) .count) (now (text .entry))) ⌝ }
+    ensures exactly { λ _. ⌜ Reads-exactly (O·Order .levels (now (order .entry)) .count) ⌝ }
+    ensures once { λ _. ⌜ One-text (O·Order .levels (now (order .entry)) .count) ⌝ }
+    ensures depth { λ _. ⌜ Nests-four-deep (O·Order .levels (now (order .entry)) .count) ⌝ }
+{
+    let classes = read(heap, order.count(), text)?;
+    Ok(Program { classes })
 }

@@ -12,6 +12,15 @@ use crate::class::Class;
 /// inside their enclosing body, and that R stands last and only there. Labels are below eight under every order.
 #[derive(Drop)]
 pub struct Program {
-    classes: Vec<Class>,
+    pub(crate) classes: Vec<Class>,
     ghost formed: { well-formed 8 (classes-of (vec-items classes)) ≡ true },
+}
+
+impl Program {
+    /// The classes, by number.
+    pub fn classes(&self) -> &[Class]
+        ensures { λ r. ⌜ now r ≡ vec-items (now (self .entry) .classes) ⌝ }
+    {
+        self.classes.as_slice()
+    }
 }

@@ -1,0 +1,22 @@
+use Prim.Native.Nat.{_≤_}
+use borrow.Author.Needs.{needs}
+use Rattle.script.proofs.Exactly.{only, reads-exactly, one-text}
+use Rattle.script.proofs.Depth.{nests-four-deep}
+use Rattle.script.proofs.Wider.{formed-more}
+use Rattle.script.proofs.load.load.Needs as need
+
+pub returns-in-Break-classes : need.returns-in-Break-classes
+returns-in-Break-classes g c =
+    let l = g .O·Order·met .lawful (c .args .order .now) in
+    record { reads = search needs; exactly = reads-exactly _ (l .few); once = one-text _; depth = nests-four-deep _ }
+
+pub ghost-result : need.ghost-result
+ghost-result g c =
+    let l = g .O·Order·met .lawful (c .args .order .now) in
+    let few : c .count .result ≤ 8 = rw (c .count .ensures) (l .few) in
+    (formed-more (c .count .result) 8 few _ (only (c .count .result) (c .args .text .now) _ (c .in-Continue-classes .ensures tt) .1), tt)
+
+pub returns : need.returns
+returns g c =
+    let l = g .O·Order·met .lawful (c .args .order .now) in
+    record { reads = search needs; exactly = reads-exactly _ (l .few); once = one-text _; depth = nests-four-deep _ }
