@@ -1,5 +1,7 @@
 use Prim.Native.Nat.{_≤_}
 use borrow.Author.Needs.{needs}
+use Rattle.std.specs.Of.Vec.{vec-items}
+use Rattle.script.specs.Classes.{classes-of}
 use Rattle.script.proofs.Exactly.{only, reads-exactly, one-text}
 use Rattle.script.proofs.Depth.{nests-four-deep}
 use Rattle.script.proofs.Wider.{formed-more}
@@ -14,7 +16,7 @@ pub ghost-result : need.ghost-result
 ghost-result g c =
     let l = g .O·Order·met .lawful (c .args .order .now) in
     let few : c .count .result ≤ 8 = rw (c .count .ensures) (l .few) in
-    (formed-more (c .count .result) 8 few _ (only (c .count .result) (c .args .text .now) _ (c .in-Continue-classes .ensures tt) .1), tt)
+    (formed-more (c .count .result) 8 few (classes-of (vec-items (c .in-Continue-classes .classes))) (only (c .count .result) (c .args .text .now) _ (c .in-Continue-classes .ensures tt) .1), tt)
 
 pub returns : need.returns
 returns g c =
