@@ -60,8 +60,8 @@ module _ (n : ℕ) (rel : ℕ → ℕ → Bool) (join : ℕ → ℕ → ℕ) (ok
   join-level : (a b : ℕ) → o .join a b < n
   join-level a b =
       cond-both (ltb a n && ltb b n) (join a b) 0 (λ k. k < n)
-        (λ t. let e = at-two a b (grind (arith, tells)) (grind (arith, tells)) in grind (arith, tells))
-        (λ _. grind (arith, tells))
+      (λ t. let e = at-two a b (grind (arith, tells)) (grind (arith, tells)) in grind (arith, tells))
+      (λ _. grind (arith, tells))
 
   pub laws-of : Laws o
   laws-of = record {

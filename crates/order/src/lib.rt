@@ -54,7 +54,11 @@ pub impl Order for Ladder as LadderOrder {
     }
 
     fn join(&self, one: Level, other: Level) -> Level {
-        if one < RUNGS && other < RUNGS { one.max(other) } else { 0 }
+        if one < RUNGS && other < RUNGS {
+            one.max(other)
+        } else {
+            0
+        }
     }
 }
 
@@ -74,7 +78,11 @@ pub impl Order for Makers as MakersOrder {
     }
 
     fn join(&self, one: Level, other: Level) -> Level {
-        if one < SETS && other < SETS { one | other } else { 0 }
+        if one < SETS && other < SETS {
+            one | other
+        } else {
+            0
+        }
     }
 }
 
@@ -86,5 +94,9 @@ pub fn join_within<O: Order>(order: &O, one: Level, other: Level, limit: Level) 
     ensures theory { λ _. ⌜ Joins (levels (now (order .entry))) ⌝ }
 {
     let joined = order.join(one, other);
-    if order.flows(joined, limit) { Some(joined) } else { None }
+    if order.flows(joined, limit) {
+        Some(joined)
+    } else {
+        None
+    }
 }

@@ -70,11 +70,11 @@ variable-only fields (pos n) v =
     cond-both (ltb n 8) _ _ P
     (λ t e. let s : Local n ≡ v = cc in subst (λ w. (pos n ≡ variable-column w) × (exists fields w ≡ true)) s (refl, t))
     (λ f. cond-both (ltb (n - 8) 8 && ltb (n - 8) fields) _ _ P
-      (λ t e.
-        let s : Of-object (n - 8) ≡ v = cc in
-        let back : n ≡ 8 + (n - 8) = omega (arith, ltb-false n 8 f) in
-        subst (λ w. (pos n ≡ variable-column w) × (exists fields w ≡ true)) s (ap pos back, t))
-      (λ _ e. none (cc)))
+    (λ t e.
+    let s : Of-object (n - 8) ≡ v = cc in
+    let back : n ≡ 8 + (n - 8) = omega (arith, ltb-false n 8 f) in
+    subst (λ w. (pos n ≡ variable-column w) × (exists fields w ≡ true)) s (ap pos back, t))
+    (λ _ e. none (cc)))
 
 pub variable-back : (fields : ℕ) (v : Variable) → exists fields v ≡ true → variable fields (variable-column v) ≡ Some v
 variable-back fields (Local n) h = cond-true (ltb n 8) _ _ h
@@ -90,7 +90,7 @@ variable-fits fields (Of-object n) h = small-fits (8 + n) (omega (arith, ltb-tru
 pub optional-only : (fields : ℕ) (z : ℤ) (o : Option Variable) → optional fields z ≡ Some o → (z ≡ optional-column o) × (exists-if-any fields o ≡ true)
 optional-only fields (pos n) o = λ e.
     by-and (variable fields (pos n)) (λ v. Some (Some v)) o ((pos n ≡ optional-column o) × (exists-if-any fields o ≡ true)) e
-      (λ v g k. let s : Some v ≡ o = cc in subst (λ w. (pos n ≡ optional-column w) × (exists-if-any fields w ≡ true)) s (variable-only fields (pos n) v g))
+    (λ v g k. let s : Some v ≡ o = cc in subst (λ w. (pos n ≡ optional-column w) × (exists-if-any fields w ≡ true)) s (variable-only fields (pos n) v g))
 optional-only fields (negsuc n) o =
     cond-both (eqb n 0) (Some None) None (λ q. q ≡ Some o → (negsuc n ≡ optional-column o) × (exists-if-any fields o ≡ true))
     (λ t e. let s : None ≡ o = cc in subst (λ w. (negsuc n ≡ optional-column w) × (exists-if-any fields w ≡ true)) s (ap negsuc (eqb-true n 0 t), refl))

@@ -62,7 +62,7 @@ module _ (body : List Statement) (i : ℕ) where
 
   -- the first statement of a range and the rest
   by-range : (fuel depth at end : ℕ) → at < end → nested (suc fuel) body depth at end ≡ true
-    → ((rows at ≡ 0) ⊎ Split (nested fuel body) depth (getD body at idle) at end) × (nested fuel body depth (at + 1 + rows at) end ≡ true)
+      → ((rows at ≡ 0) ⊎ Split (nested fuel body) depth (getD body at idle) at end) × (nested fuel body depth (at + 1 + rows at) end ≡ true)
   by-range fuel depth at end h n =
       let t : ltb at end ≡ true = lt-ltb at end h in
       let p = and-parts (branches-fit (nested fuel body) depth (getD body at idle) at end) _ (rw t at n) in
@@ -72,53 +72,53 @@ module _ (body : List Statement) (i : ℕ) where
   inside : (fuel depth at end : ℕ) → nested fuel body depth at end ≡ true → at ≤ end → end ≤ i → reaching body i end ≡ reaching body i at
   inside zero depth at end n h k = let s : end ≡ at = omega (arith, leb-true end at n) in ap (reaching body i) s
   inside (suc fuel) depth at end n h k =
-      elim (cases-lt at end)
-        [ inl lt ↦
-          let p = by-range fuel depth at end lt n in
-          elim (p .0)
-            [ inl z ↦
-              let next : at + 1 + rows at ≡ at + 1 = omega arith in
-              inside fuel depth (at + 1 + rows at) end (p .1) (omega arith) k ∙ ap (reaching body i) next ∙ misses at (omega arith)
-            | inr s ↦
-              let next : at + 1 + rows at ≡ at + 1 + s .first + s .second = omega (arith, s .rows) in
-              inside fuel depth (at + 1 + rows at) end (p .1) (omega (arith, s .ends)) k ∙ ap (reaching body i) next
-              ∙ inside fuel (s .less) (at + 1 + s .first) (at + 1 + s .first + s .second) (s .two) (omega arith) (omega (arith, s .ends))
-              ∙ inside fuel (s .less) (at + 1) (at + 1 + s .first) (s .one) (omega arith) (omega (arith, s .ends))
-              ∙ misses at (omega (arith, s .rows, s .ends))
+      elim (cases-lt at end) [
+        | inl lt ↦
+            let p = by-range fuel depth at end lt n in
+            elim (p .0) [
+              | inl z ↦
+                  let next : at + 1 + rows at ≡ at + 1 = omega arith in
+                  inside fuel depth (at + 1 + rows at) end (p .1) (omega arith) k ∙ ap (reaching body i) next ∙ misses at (omega arith)
+              | inr s ↦
+                  let next : at + 1 + rows at ≡ at + 1 + s .first + s .second = omega (arith, s .rows) in
+                  inside fuel depth (at + 1 + rows at) end (p .1) (omega (arith, s .ends)) k ∙ ap (reaching body i) next
+                  ∙ inside fuel (s .less) (at + 1 + s .first) (at + 1 + s .first + s .second) (s .two) (omega arith) (omega (arith, s .ends))
+                  ∙ inside fuel (s .less) (at + 1) (at + 1 + s .first) (s .one) (omega arith) (omega (arith, s .ends))
+                  ∙ misses at (omega (arith, s .rows, s .ends))
             ]
         | inr ge ↦ let s : end ≡ at = omega arith in ap (reaching body i) s
-        ]
+      ]
 
   -- in a range, at most so many branches are added
   deeper : (fuel depth at end : ℕ) → nested fuel body depth at end ≡ true → at ≤ i → i < end → reaching body i i ≤ reaching body i at + depth
   deeper zero depth at end n h k = absurd (omega (arith, leb-true end at n))
   deeper (suc fuel) depth at end n h k =
       let p = by-range fuel depth at end (omega arith) n in
-      elim (cases-lt at i)
-        [ inl past ↦
-          elim (p .0)
-            [ inl z ↦
-              let next : at + 1 + rows at ≡ at + 1 = omega arith in
-              let e = ap (reaching body i) next ∙ misses at (omega arith) in
-              omega (arith, e, deeper fuel depth (at + 1 + rows at) end (p .1) (omega arith) k)
-            | inr s ↦
-              elim (cases-lt i (at + 1 + s .first))
-                [ inl in-first ↦
-                  omega (arith, s .deep, reaches at (omega (arith, s .rows)), deeper fuel (s .less) (at + 1) (at + 1 + s .first) (s .one) (omega arith) in-first)
-                | inr later ↦
-                  let over = inside fuel (s .less) (at + 1) (at + 1 + s .first) (s .one) (omega arith) later in
-                  elim (cases-lt i (at + 1 + s .first + s .second))
-                    [ inl in-second ↦
-                      omega (arith, s .deep, reaches at (omega (arith, s .rows)), over, deeper fuel (s .less) (at + 1 + s .first) (at + 1 + s .first + s .second) (s .two) later in-second)
-                    | inr after ↦
-                      let past-both = inside fuel (s .less) (at + 1 + s .first) (at + 1 + s .first + s .second) (s .two) (omega arith) after in
-                      let next : at + 1 + rows at ≡ at + 1 + s .first + s .second = omega (arith, s .rows) in
-                      omega (arith, ap (reaching body i) next, past-both, over, misses at (omega (arith, s .rows)), deeper fuel depth (at + 1 + rows at) end (p .1) (omega (arith, s .rows)) k)
-                    ]
-                ]
+      elim (cases-lt at i) [
+        | inl past ↦
+            elim (p .0) [
+              | inl z ↦
+                  let next : at + 1 + rows at ≡ at + 1 = omega arith in
+                  let e = ap (reaching body i) next ∙ misses at (omega arith) in
+                  omega (arith, e, deeper fuel depth (at + 1 + rows at) end (p .1) (omega arith) k)
+              | inr s ↦
+                  elim (cases-lt i (at + 1 + s .first)) [
+                    | inl in-first ↦
+                        omega (arith, s .deep, reaches at (omega (arith, s .rows)), deeper fuel (s .less) (at + 1) (at + 1 + s .first) (s .one) (omega arith) in-first)
+                    | inr later ↦
+                        let over = inside fuel (s .less) (at + 1) (at + 1 + s .first) (s .one) (omega arith) later in
+                        elim (cases-lt i (at + 1 + s .first + s .second)) [
+                          | inl in-second ↦
+                              omega (arith, s .deep, reaches at (omega (arith, s .rows)), over, deeper fuel (s .less) (at + 1 + s .first) (at + 1 + s .first + s .second) (s .two) later in-second)
+                          | inr after ↦
+                              let past-both = inside fuel (s .less) (at + 1 + s .first) (at + 1 + s .first + s .second) (s .two) (omega arith) after in
+                              let next : at + 1 + rows at ≡ at + 1 + s .first + s .second = omega (arith, s .rows) in
+                              omega (arith, ap (reaching body i) next, past-both, over, misses at (omega (arith, s .rows)), deeper fuel depth (at + 1 + rows at) end (p .1) (omega (arith, s .rows)) k)
+                        ]
+                  ]
             ]
         | inr here ↦ let s : i ≡ at = omega arith in omega (arith, ap (reaching body i) s)
-        ]
+      ]
 
 -- what is before i is all that counts
 reaching-same : (one other : List Statement) (i n : ℕ) → ((k : ℕ) → k < n → getD one k idle ≡ getD other k idle) → reaching one i n ≡ reaching other i n
@@ -133,10 +133,10 @@ body-depth body i h lt =
     let c = and-parts (no-return front) _ (b .1) in
     let long : length front ≡ length body - 1 = length-take-le (length body - 1) body (omega arith) in
     let same = reaching-same front body i i (λ k l. getD-take (length body - 1) body k idle (omega arith)) in
-    elim (cases-lt i (length front))
-      [ inl before ↦ omega (arith, same, deeper front i (length front) 4 0 (length front) (c .1) (omega arith) before)
+    elim (cases-lt i (length front)) [
+      | inl before ↦ omega (arith, same, deeper front i (length front) 4 0 (length front) (c .1) (omega arith) before)
       | inr last ↦ let e : i ≡ length front = omega arith in omega (arith, same, ap (reaching front i) e, inside front i (length front) 4 0 (length front) (c .1) (omega arith) last)
-      ]
+    ]
 
 -- and so in every method of every class
 method-deep : (levels fields : ℕ) (m : Method) → method-formed levels fields m ≡ true → (at : ℕ) → at < length (m .statements) → depth-at (m .statements) at ≤ 4

@@ -31,8 +31,8 @@ drafted cs fs ms h ss = record { classes = classes-of cs; fields = fs; methods =
 
 -- the class at hand was pushed
 pub class-closed : (cs cs′ : List StoredClass) (x : StoredClass) (fs fs′ : List ℕ) (ms ms′ : List StoredMethod) (h : Option Heading) (ss : List Statement)
-  → cs′ ≡ cs ++ x ∷ [] → vec-items (x .fields) ≡ fs → vec-items (x .methods) ≡ ms → fs′ ≡ [] → ms′ ≡ []
-  → close-class (drafted cs fs ms h ss) ≡ drafted cs′ fs′ ms′ h ss
+    → cs′ ≡ cs ++ x ∷ [] → vec-items (x .fields) ≡ fs → vec-items (x .methods) ≡ ms → fs′ ≡ [] → ms′ ≡ []
+    → close-class (drafted cs fs ms h ss) ≡ drafted cs′ fs′ ms′ h ss
 class-closed cs cs′ x fs fs′ ms ms′ h ss p f m e g = rw (p, e, g, map-push class-of cs x, ← f, ← m)
 
 checked : (stands : Bool) (line : ℕ) → _≡_ {A = Result (Unit {0}) BodyFault} (Ok tt) (cond stands (Ok tt) (Err (Body line))) → stands ≡ true
@@ -41,9 +41,9 @@ checked false line e = let z : _≡_ {A = ℕ} 0 1 = cc in absurd (omega arith)
 
 -- the open method was checked and pushed
 pub body-closed : (cs : List StoredClass) (fs : List ℕ) (ms ms′ : List StoredMethod) (x : StoredMethod) (h : Heading) (o : Option Heading) (ss seen ss′ : List Statement)
-  → o ≡ Some h → _≡_ {A = Result (Unit {0}) BodyFault} (Ok tt) (cond (stands seen) (Ok tt) (Err (Body (h .line)))) → seen ≡ ss
-  → ms′ ≡ ms ++ x ∷ [] → x .parameters ≡ h .parameters → vec-items (x .statements) ≡ ss → ss′ ≡ []
-  → close-body (drafted cs fs ms o ss) ≡ Ok (drafted cs fs ms′ None ss′)
+    → o ≡ Some h → _≡_ {A = Result (Unit {0}) BodyFault} (Ok tt) (cond (stands seen) (Ok tt) (Err (Body (h .line)))) → seen ≡ ss
+    → ms′ ≡ ms ++ x ∷ [] → x .parameters ≡ h .parameters → vec-items (x .statements) ≡ ss → ss′ ≡ []
+    → close-body (drafted cs fs ms o ss) ≡ Ok (drafted cs fs ms′ None ss′)
 body-closed cs fs ms ms′ x h o ss seen ss′ i c same p n s e =
     let t : stands ss ≡ true = ap stands (sym same) ∙ checked (stands seen) (h .line) c in
     rw (i, t, p, e, map-push method-of ms x, ← n, ← s)

@@ -26,19 +26,20 @@ row-more rows r rest = sym (ap (λ bs. bs ++ rest) (text-append rows (r ∷ []) 
 module _ (levels : ℕ) where
   -- what is read is the text of what comes of it
   rows-only : (fuel line : ℕ) (d : Draft) (bs : List ℕ) (p : Program) → Sound levels d → Bare levels (d .heading) (d .methods) → length bs ≤ fuel → rows-from fuel levels line d bs ≡ Ok p
-    → (rows-text (rows-so-far d) ++ bs ≡ rows-text (rows-of p)) × (well-formed levels p ≡ true)
+      → (rows-text (rows-so-far d) ++ bs ≡ rows-text (rows-of p)) × (well-formed levels p ≡ true)
   rows-only fuel line d [] p s z h e = let q = next-end levels d p s e in (append-nil (rows-text (rows-so-far d)) ∙ ap rows-text (sym (q .0)), q .1)
   rows-only zero line d (b ∷ bs) p s z h e = absurd (omega arith)
   rows-only (suc fuel) line d (b ∷ bs) p s z h e =
       by-bind (row-from levels line d (b ∷ bs)) (λ x. rows-from fuel levels (line + 1) (x .0) (x .1)) p ((rows-text (rows-so-far d) ++ (b ∷ bs) ≡ rows-text (rows-of p)) × (well-formed levels p ≡ true)) e
-        (λ x g k.
-          let t = row-taken levels line d (b ∷ bs) (x .0) (x .1) g in
-          let o = row-only (b ∷ bs) (t .row) (x .1) (t .read) in
-          let n = next-row levels line d (t .row) (t .said) (x .0) s z (o .fits) (t .says) (t .does) in
-          let short = rest-shorter levels line d (b ∷ bs) (x .0) (x .1) g in
-          let ih = rows-only fuel (line + 1) (x .0) (x .1) p (n .sound) (n .bare) (omega arith) k in
-          ( ap (λ l. rows-text (rows-so-far d) ++ l) (o .text) ∙ row-more (rows-so-far d) (t .row) (x .1) ∙ ap (λ rs. rows-text rs ++ x .1) (sym (n .rows)) ∙ ih .0
-          , ih .1 ))
+      (λ x g k.
+      let t = row-taken levels line d (b ∷ bs) (x .0) (x .1) g in
+      let o = row-only (b ∷ bs) (t .row) (x .1) (t .read) in
+      let n = next-row levels line d (t .row) (t .said) (x .0) s z (o .fits) (t .says) (t .does) in
+      let short = rest-shorter levels line d (b ∷ bs) (x .0) (x .1) g in
+      let ih = rows-only fuel (line + 1) (x .0) (x .1) p (n .sound) (n .bare) (omega arith) k in (
+        ap (λ l. rows-text (rows-so-far d) ++ l) (o .text) ∙ row-more (rows-so-far d) (t .row) (x .1) ∙ ap (λ rs. rows-text rs ++ x .1) (sym (n .rows)) ∙ ih .0,
+        ih .1,
+      ))
 
   by-names : (g : Got (Unit {0})) (p : Program) → after-names levels g ≡ Ok p → (rest : List ℕ) × (g ≡ got tt rest) × (rows-from (length rest) levels 2 nothing rest ≡ Ok p)
   by-names (got u rest) p e = (rest, refl, e)

@@ -61,20 +61,20 @@ method-next p n l b = rw b
 
 module _ (levels : ℕ) where
   field-entry : (line : ℕ) (p : Place) (n k l : ℕ) (b : Bool) → begins-class p (field-row n k l) ≡ b → field-follows p (field-row n k l) ≡ true → ltb l levels ≡ true
-    → entry levels line p (field-row n k l) ≡ Ok (record { «begins_class» = b; item = Label l })
+      → entry levels line p (field-row n k l) ≡ Ok (record { «begins_class» = b; item = Label l })
   field-entry line p n k l b e f t = rw (f, e, t)
 
   head-entry : (line : ℕ) (p : Place) (n k l : ℕ) (b : Bool) → begins-class p (head-row n k l) ≡ b → method-follows p (head-row n k l) ≡ true → ltb l 5 ≡ true
-    → entry levels line p (head-row n k l) ≡ Ok (record { «begins_class» = b; item = Head l })
+      → entry levels line p (head-row n k l) ≡ Ok (record { «begins_class» = b; item = Head l })
   head-entry line p n k l b e f t = rw (f, e, t)
 
   -- nothing is in the way of what comes next in class number `length cs`
   record Ready (b : Bool) (d : Draft) (cs : List Class) (fs : List ℕ) (ms : List Method) : Type 0 where
     closes : bind (close-body d) (λ e. Ok (turn-class b e)) ≡ Ok (draft cs fs ms None [])
     field : (line l : ℕ) → ltb l levels ≡ true → length cs ≤ 7 → length fs ≤ 7 → length ms ≡ 0
-      → entry levels line (place d) (field-row (length cs) (length fs) l) ≡ Ok (record { «begins_class» = b; item = Label l })
+        → entry levels line (place d) (field-row (length cs) (length fs) l) ≡ Ok (record { «begins_class» = b; item = Label l })
     head : (line k : ℕ) → ltb k 5 ≡ true → length cs ≤ 7 → length ms ≤ 3
-      → entry levels line (place d) (head-row (length cs) (length ms) k) ≡ Ok (record { «begins_class» = b; item = Head k })
+        → entry levels line (place d) (head-row (length cs) (length ms) k) ≡ Ok (record { «begins_class» = b; item = Head k })
 
   -- the class at hand has these fields and, once the open method is closed, these methods
   record Here (d : Draft) (cs : List Class) (fs : List ℕ) (ms : List Method) : Type 0 where
@@ -99,11 +99,11 @@ module _ (levels : ℕ) where
       record {
         closes = rw (h .closes);
         field = λ line l t few f m.
-          let b = next-class (place d) (field-row (length (cs ++ record { fields = fs; methods = ms } ∷ [])) 0 l) _ refl (omega (arith, n, c)) few begun-here in
-          field-entry line (place d) _ 0 l true b (field-next (place d) _ l b) t;
+            let b = next-class (place d) (field-row (length (cs ++ record { fields = fs; methods = ms } ∷ [])) 0 l) _ refl (omega (arith, n, c)) few begun-here in
+            field-entry line (place d) _ 0 l true b (field-next (place d) _ l b) t;
         head = λ line k t few m.
-          let b = next-class (place d) (head-row (length (cs ++ record { fields = fs; methods = ms } ∷ [])) 0 k) _ refl (omega (arith, n, c)) few begun-here in
-          head-entry line (place d) _ 0 k true b (method-next (place d) _ k b) t;
+            let b = next-class (place d) (head-row (length (cs ++ record { fields = fs; methods = ms } ∷ [])) 0 k) _ refl (omega (arith, n, c)) few begun-here in
+            head-entry line (place d) _ 0 k true b (method-next (place d) _ k b) t;
       }
 
   record Stand (b : Bool) (d : Draft) (cs : List Class) (fs : List ℕ) (ms : List Method) : Type 0 where
@@ -122,7 +122,7 @@ module _ (levels : ℕ) where
     same : rows-in levels line d bs ≡ rows-in levels last end rest
 
   then-reached : (line next : ℕ) (d e : Draft) (bs more : List ℕ) (cs : List Class) (fs : List ℕ) (ms : List Method) (rest : List ℕ)
-    → rows-in levels line d bs ≡ rows-in levels next e more → Reached next e more cs fs ms rest → Reached line d bs cs fs ms rest
+      → rows-in levels line d bs ≡ rows-in levels next e more → Reached next e more cs fs ms rest → Reached line d bs cs fs ms rest
   then-reached line next d e bs more cs fs ms rest p r = record { begins = r .begins; last = r .last; end = r .end; stand = r .stand; same = p ∙ r .same }
 
   bind-on : {X Y Z : Type 0} (g : Result X BodyFault) (f : X → Y) (h : Y → Z) (y : Y) → bind g (λ x. Ok (f x)) ≡ Ok y → bind g (λ x. Ok (h (f x))) ≡ Ok (h y)
@@ -133,7 +133,7 @@ module _ (levels : ℕ) where
     -- FIELDS
 
     fields-feed : (todo : List ℕ) (b : Bool) (line : ℕ) (d : Draft) (cs : List Class) (fs : List ℕ) (rest : List ℕ) → Stand b d cs fs [] → length cs ≤ 7 → length fs + length todo ≤ 8
-      → every (λ l. ltb l levels) todo ≡ true → Reached line d (rows-text (field-rows (length cs) (length fs) todo) ++ rest) cs (fs ++ todo) [] rest
+        → every (λ l. ltb l levels) todo ≡ true → Reached line d (rows-text (field-rows (length cs) (length fs) todo) ++ rest) cs (fs ++ todo) [] rest
     fields-feed [] b line d cs fs rest s c n h =
         record { begins = b; last = line; end = d; stand = subst (λ x. Stand b d cs x []) (sym (append-nil fs)) s; same = refl }
     fields-feed (l ∷ ls) b line d cs fs rest s c n h =
@@ -148,23 +148,23 @@ module _ (levels : ℕ) where
         let stand = stand-here e cs (fs ++ l ∷ []) [] (record { closes = refl; class = refl; fields = refl; methods = refl }) in
         let ih = fields-feed ls false (line + 1) e cs (fs ++ l ∷ []) rest stand c (omega arith) (t .1) in
         let back : Reached (line + 1) e after cs (fs ++ l ∷ ls) [] rest =
-          subst (λ x. Reached (line + 1) e after cs x [] rest) (append-assoc fs (l ∷ []) ls)
-            (subst (λ k. Reached (line + 1) e (rows-text (field-rows (length cs) k ls) ++ rest) cs ((fs ++ l ∷ []) ++ ls) [] rest) (sym place-is) ih) in
+        subst (λ x. Reached (line + 1) e after cs x [] rest) (append-assoc fs (l ∷ []) ls)
+        (subst (λ k. Reached (line + 1) e (rows-text (field-rows (length cs) k ls) ++ rest) cs ((fs ++ l ∷ []) ++ ls) [] rest) (sym place-is) ih) in
         then-reached line (line + 1) d e _ after cs (fs ++ l ∷ ls) [] rest
-          (ap (rows-in levels line d) (append-assoc (row-text r) (rows-text (field-rows (length cs) (suc (length fs)) ls)) rest) ∙ one) back
+        (ap (rows-in levels line d) (append-assoc (row-text r) (rows-text (field-rows (length cs) (suc (length fs)) ls)) rest) ∙ one) back
 
     -- STATEMENTS
 
     statement-entry : (line class method : ℕ) (p : Place) (fields : ℕ) (o : Operation) → p .class ≡ class → p .methods ≡ method + 1 → p .statements ≤ 31 → p .fields ≡ fields
-      → in-range levels fields o ≡ true → entry levels line p (statement-row class method o) ≡ Ok (record { «begins_class» = false; item = Action o })
+        → in-range levels fields o ≡ true → entry levels line p (statement-row class method o) ≡ Ok (record { «begins_class» = false; item = Action o })
     statement-entry line class method p fields o c m n f t =
         let follow : statement-follows p (statement-row class method o) ≡ true =
-          and-from _ _ (eq-eqb class _ (sym c)) (and-from _ _ (lt-ltb 0 _ (omega arith)) (and-from _ _ (eq-eqb method _ (omega arith)) (le-leb _ 31 n))) in
+        and-from _ _ (eq-eqb class _ (sym c)) (and-from _ _ (lt-ltb 0 _ (omega arith)) (and-from _ _ (eq-eqb method _ (omega arith)) (le-leb _ 31 n))) in
         rw (follow, same-class p (statement-row class method o) class refl c, f, statement-back fields levels class method (Statement (letter-of o)) o t)
 
     statements-feed : (todo : List Operation) (line : ℕ) (cs : List Class) (fs : List ℕ) (ms : List Method) (h : Heading) (done : List Operation) (rest : List ℕ)
-      → length cs ≤ 7 → length ms ≤ 3 → length done + length todo ≤ 32 → every (in-range levels (length fs)) todo ≡ true
-      → (last : ℕ) × (rows-in levels line (draft cs fs ms (Some h) done) (rows-text (map (statement-row (length cs) (length ms)) todo) ++ rest) ≡ rows-in levels last (draft cs fs ms (Some h) (done ++ todo)) rest)
+        → length cs ≤ 7 → length ms ≤ 3 → length done + length todo ≤ 32 → every (in-range levels (length fs)) todo ≡ true
+        → (last : ℕ) × (rows-in levels line (draft cs fs ms (Some h) done) (rows-text (map (statement-row (length cs) (length ms)) todo) ++ rest) ≡ rows-in levels last (draft cs fs ms (Some h) (done ++ todo)) rest)
     statements-feed [] line cs fs ms h done rest c m n t = (line, ap (λ ss. rows-in levels line (draft cs fs ms (Some h) ss) rest) (sym (append-nil done)))
     statements-feed (o ∷ os) line cs fs ms h done rest c m n t =
         let x = and-parts (in-range levels (length fs) o) _ t in
@@ -175,16 +175,17 @@ module _ (levels : ℕ) where
         let e = draft cs fs ms (Some h) (done ++ o ∷ []) in
         let fit : Fits r = row-fits (length cs) (length ms) _ _ (omega arith) (omega arith) (statement-small (length fs) levels o few (x .0)) in
         let one = rows-feed levels line d r after _ e fit (statement-entry line (length cs) (length ms) (place d) (length fs) o refl refl (omega arith) refl (x .0)) refl in
-        let ih = statements-feed os (line + 1) cs fs ms h (done ++ o ∷ []) rest c m (omega arith) (x .1) in
-        ( ih .0
-        , ap (rows-in levels line d) (append-assoc (row-text r) (rows-text (map (statement-row (length cs) (length ms)) os)) rest) ∙ one ∙ ih .1
-          ∙ ap (λ ss. rows-in levels (ih .0) (draft cs fs ms (Some h) ss) rest) (append-assoc done (o ∷ []) os) )
+        let ih = statements-feed os (line + 1) cs fs ms h (done ++ o ∷ []) rest c m (omega arith) (x .1) in (
+          ih .0,
+          ap (rows-in levels line d) (append-assoc (row-text r) (rows-text (map (statement-row (length cs) (length ms)) os)) rest) ∙ one ∙ ih .1
+              ∙ ap (λ ss. rows-in levels (ih .0) (draft cs fs ms (Some h) ss) rest) (append-assoc done (o ∷ []) os),
+        )
 
     -- METHODS
 
     methods-feed : (todo : List Method) (b : Bool) (line : ℕ) (d : Draft) (cs : List Class) (fs : List ℕ) (ms : List Method) (rest : List ℕ) → Stand b d cs fs ms → length cs ≤ 7
-      → length ms + length todo ≤ 4 → every (method-formed levels (length fs)) todo ≡ true
-      → Reached line d (rows-text (methods-rows (length cs) (length ms) todo) ++ rest) cs fs (ms ++ todo) rest
+        → length ms + length todo ≤ 4 → every (method-formed levels (length fs)) todo ≡ true
+        → Reached line d (rows-text (methods-rows (length cs) (length ms) todo) ++ rest) cs fs (ms ++ todo) rest
     methods-feed [] b line d cs fs ms rest s c n h =
         record { begins = b; last = line; end = d; stand = subst (λ x. Stand b d cs fs x) (sym (append-nil ms)) s; same = refl }
     methods-feed (m ∷ todo) b line d cs fs ms rest s c n h =
@@ -206,10 +207,10 @@ module _ (levels : ℕ) where
         let ih = methods-feed todo false (two .0) f cs fs (ms ++ m ∷ []) rest (stand-here f cs fs (ms ++ m ∷ []) here) c (omega arith) (t .1) in
         let place-is : suc (length ms) ≡ length (ms ++ m ∷ []) = omega arith in
         let back : Reached (two .0) f others cs fs (ms ++ m ∷ todo) rest =
-          subst (λ x. Reached (two .0) f others cs fs x rest) (append-assoc ms (m ∷ []) todo)
-            (subst (λ k. Reached (two .0) f (rows-text (methods-rows (length cs) k todo) ++ rest) cs fs ((ms ++ m ∷ []) ++ todo) rest) (sym place-is) ih) in
+        subst (λ x. Reached (two .0) f others cs fs x rest) (append-assoc ms (m ∷ []) todo)
+        (subst (λ k. Reached (two .0) f (rows-text (methods-rows (length cs) k todo) ++ rest) cs fs ((ms ++ m ∷ []) ++ todo) rest) (sym place-is) ih) in
         let bytes : rows-text (methods-rows (length cs) (length ms) (m ∷ todo)) ++ rest ≡ row-text r ++ (body ++ others) =
-          ap (λ bs. bs ++ rest) (text-append (method-rows (length cs) (length ms) m) (methods-rows (length cs) (suc (length ms)) todo)) ∙ regroup (row-text r) body _ rest in
+        ap (λ bs. bs ++ rest) (text-append (method-rows (length cs) (length ms) m) (methods-rows (length cs) (suc (length ms)) todo)) ∙ regroup (row-text r) body _ rest in
         then-reached line (two .0) d f _ others cs fs (ms ++ m ∷ todo) rest (ap (rows-in levels line d) bytes ∙ one ∙ two .1) back
 
     -- CLASSES
@@ -220,7 +221,7 @@ module _ (levels : ℕ) where
         let t : ltb 0 (length fs + (length ms + 0)) ≡ true = lt-ltb 0 _ (omega arith) in rw (h .closes, t)
 
     classes-feed : (todo : List Class) (b : Bool) (line : ℕ) (d : Draft) (cs : List Class) → Ready b d cs [] [] → finish d ≡ Ok cs → length cs + length todo ≤ 8
-      → every (class-formed levels) todo ≡ true → rows-in levels line d (rows-text (classes-rows (length cs) todo)) ≡ Ok (cs ++ todo)
+        → every (class-formed levels) todo ≡ true → rows-in levels line d (rows-text (classes-rows (length cs) todo)) ≡ Ok (cs ++ todo)
     classes-feed [] b line d cs r f n h = f ∙ ap Ok (sym (append-nil cs))
     classes-feed (c ∷ todo) b line d cs r f n h =
         let t = and-parts (class-formed levels c) _ h in
@@ -239,9 +240,9 @@ module _ (levels : ℕ) where
         let place-is : suc (length cs) ≡ length (cs ++ c ∷ []) = omega arith in
         let ih = classes-feed todo true (two .last) (two .end) (cs ++ c ∷ []) (ready-next (two .end) cs (c .fields) (c .methods) here some) (end-here (two .end) cs (c .fields) (c .methods) here some) (omega arith) (t .1) in
         let bytes : rows-text (classes-rows (length cs) (c ∷ todo)) ≡ rows-text (field-rows (length cs) 0 (c .fields)) ++ (methods ++ others) =
-          text-append (class-rows (length cs) c) (classes-rows (suc (length cs)) todo)
-          ∙ ap (λ bs. bs ++ others) (text-append (field-rows (length cs) 0 (c .fields)) (methods-rows (length cs) 0 (c .methods)))
-          ∙ append-assoc (rows-text (field-rows (length cs) 0 (c .fields))) methods others in
+        text-append (class-rows (length cs) c) (classes-rows (suc (length cs)) todo)
+        ∙ ap (λ bs. bs ++ others) (text-append (field-rows (length cs) 0 (c .fields)) (methods-rows (length cs) 0 (c .methods)))
+        ∙ append-assoc (rows-text (field-rows (length cs) 0 (c .fields))) methods others in
         ap (rows-in levels line d) bytes ∙ one .same ∙ two .same ∙ ap (λ k. rows-in levels (two .last) (two .end) (rows-text (classes-rows k todo))) place-is ∙ ih ∙ ap Ok (append-assoc cs (c ∷ []) todo)
 
     nothing-ready : Ready false nothing [] [] []

@@ -57,7 +57,7 @@ begins-only : (p : Place) (r : Row) → begins-class p r ≡ true → (0 < p .fi
 begins-only p r h = let x = and-parts _ _ h in let y = and-parts _ _ (x .1) in (ltb-true _ _ (x .0), leb-true _ _ (y .0), is-only (r .class) _ (y .1))
 
 field-at : (p : Place) (r : Row) (b : Bool) → begins-class p r ≡ b → field-follows p r ≡ true
-  → (r .method ≡ pos 0) × (r .class ≡ pos (cond b (p .class + 1) (p .class))) × (r .to ≡ pos (cond b 0 (p .fields))) × (cond b 0 (p .fields) ≤ 7) × (cond b 0 (p .methods) ≡ 0)
+    → (r .method ≡ pos 0) × (r .class ≡ pos (cond b (p .class + 1) (p .class))) × (r .to ≡ pos (cond b 0 (p .fields))) × (cond b 0 (p .fields) ≤ 7) × (cond b 0 (p .methods) ≡ 0)
 field-at p r true e h =
     let m = and-parts _ _ h in (is-only (r .method) 0 (m .0), begins-only p r e .2, is-only (r .to) 0 (rw e at (m .1)), omega arith, refl)
 field-at p r false e h =
@@ -69,7 +69,7 @@ field-at p r false e h =
     (is-only (r .method) 0 (m .0), is-only (r .class) _ (x .0), is-only (r .to) _ (z .1), leb-true _ _ (z .0), eqb-true _ _ (y .0))
 
 method-at : (p : Place) (r : Row) (b : Bool) → begins-class p r ≡ b → method-follows p r ≡ true
-  → (r .class ≡ pos (cond b (p .class + 1) (p .class))) × (r .method ≡ pos (cond b 0 (p .methods))) × (cond b 0 (p .methods) ≤ 3)
+    → (r .class ≡ pos (cond b (p .class + 1) (p .class))) × (r .method ≡ pos (cond b 0 (p .methods))) × (cond b 0 (p .methods) ≤ 3)
 method-at p r true e h = (begins-only p r e .2, is-only (r .method) 0 (rw e at h), omega arith)
 method-at p r false e h =
     let n : (is (r .class) (p .class) && (leb (p .methods) 3 && is (r .method) (p .methods))) ≡ true = rw e at h in
@@ -104,7 +104,7 @@ by-ranged line b (Some i) x e = let s : record { «begins_class» = b; item = i 
 by-ranged line b None x e = none (cc)
 
 by-entry : (levels line : ℕ) (p : Place) (r : Row) (x : Entry) → entry levels line p r ≡ Ok x
-  → (follows (r .kind) p r ≡ true) × (item levels (p .fields) (r .kind) r ≡ Some (x .item)) × (begins-class p r ≡ x .«begins_class»)
+    → (follows (r .kind) p r ≡ true) × (item levels (p .fields) (r .kind) r ≡ Some (x .item)) × (begins-class p r ≡ x .«begins_class»)
 by-entry levels line p r x =
     cond-both (follows (r .kind) p r) _ _ (λ q. q ≡ Ok x → (follows (r .kind) p r ≡ true) × (item levels (p .fields) (r .kind) r ≡ Some (x .item)) × (begins-class p r ≡ x .«begins_class»))
     (λ t e. let q = by-ranged line (begins-class p r) (item levels (p .fields) (r .kind) r) x e in (t, q .0, q .1))
@@ -139,7 +139,7 @@ module _ (levels : ℕ) where
     pub rows : rows-so-far (draft cs fs methods None []) ≡ rows-so-far (draft cs fs ms h ss)
 
   closed-method : (cs : List Class) (fs : List ℕ) (ms : List Method) (h : Heading) (ss : List Operation) → Sound (draft cs fs ms (Some h) ss) → stands ss ≡ true
-    → Closed cs fs ms (Some h) ss (draft cs fs (ms ++ record { parameters = h .parameters; statements = ss } ∷ []) None [])
+      → Closed cs fs ms (Some h) ss (draft cs fs (ms ++ record { parameters = h .parameters; statements = ss } ∷ []) None [])
   closed-method cs fs ms h ss s t =
       let m : Method = record { parameters = h .parameters; statements = ss } in
       let k = length-append ms (m ∷ []) in
@@ -158,12 +158,12 @@ module _ (levels : ℕ) where
           headed = refl;
         };
         rows =
-          ap (λ rs. classes-rows 0 cs ++ (field-rows (length cs) 0 fs ++ rs))
+            ap (λ rs. classes-rows 0 cs ++ (field-rows (length cs) 0 fs ++ rs))
             (append-nil (methods-rows (length cs) 0 (ms ++ m ∷ [])) ∙ methods-push (length cs) 0 ms m ∙ ap (λ n. methods-rows (length cs) 0 ms ++ method-rows (length cs) n m) (zero-add (length ms)));
       }
 
   pub closed-body : (cs : List Class) (fs : List ℕ) (ms : List Method) (h : Option Heading) (ss : List Operation) (e : Draft) → Sound (draft cs fs ms h ss)
-    → close-method h (draft cs fs ms h ss) ≡ Ok e → Closed cs fs ms h ss e
+      → close-method h (draft cs fs ms h ss) ≡ Ok e → Closed cs fs ms h ss e
   closed-body cs fs ms None ss e s = λ p.
       let same : draft cs fs ms None ss ≡ e = cc in
       record {
@@ -186,7 +186,7 @@ module _ (levels : ℕ) where
     whole-formed : 0 < length fs + length ms → every (class-formed levels) whole ≡ true
     whole-formed some =
         every-push (class-formed levels) cs _ (s .formed)
-          (and-from _ _ (le-leb _ _ (s .few-fields)) (and-from _ _ (le-leb _ _ (omega (arith, s .few-methods))) (and-from _ _ (lt-ltb _ _ some) (and-from _ _ (s .labels) (s .bodies)))))
+        (and-from _ _ (le-leb _ _ (s .few-fields)) (and-from _ _ (le-leb _ _ (omega (arith, s .few-methods))) (and-from _ _ (lt-ltb _ _ some) (and-from _ _ (s .labels) (s .bodies)))))
 
     whole-rows : classes-rows 0 whole ≡ rows-so-far (draft cs fs ms None [])
     whole-rows =
@@ -195,9 +195,10 @@ module _ (levels : ℕ) where
 
     class-closed : 0 < length fs + length ms → length cs ≤ 6 → Sound (draft whole [] [] None []) × (rows-so-far (draft whole [] [] None []) ≡ rows-so-far (draft cs fs ms None []))
     class-closed some few =
-        let k = length-append cs (record { fields = fs; methods = ms } ∷ []) in
-        ( record { number = omega (arith, k); formed = whole-formed some; few-fields = omega arith; labels = refl; few-methods = omega arith; bodies = refl; headed = refl }
-        , append-nil (classes-rows 0 whole) ∙ whole-rows )
+        let k = length-append cs (record { fields = fs; methods = ms } ∷ []) in (
+          record { number = omega (arith, k); formed = whole-formed some; few-fields = omega arith; labels = refl; few-methods = omega arith; bodies = refl; headed = refl },
+          append-nil (classes-rows 0 whole) ∙ whole-rows,
+        )
 
     -- the end of the text
     end-classes : (rows-of (all-classes (draft cs fs ms None [])) ≡ rows-so-far (draft cs fs ms None [])) × (well-formed levels (all-classes (draft cs fs ms None [])) ≡ true)
@@ -206,10 +207,11 @@ module _ (levels : ℕ) where
         cond-both (ltb 0 (length fs + (length ms + 0))) whole cs (λ p. (rows-of p ≡ rows-so-far (draft cs fs ms None [])) × (well-formed levels p ≡ true))
         (λ t. (whole-rows, and-from _ _ (le-leb _ _ (omega (arith, k, s .number))) (whole-formed (omega (arith, ltb-true _ _ t)))))
         (λ t.
-          let no-fields : fs ≡ [] = nil-from-length fs (omega (arith, ltb-false _ _ t)) in
-          let no-methods : ms ≡ [] = nil-from-length ms (omega (arith, ltb-false _ _ t)) in
-          ( sym (append-nil (classes-rows 0 cs)) ∙ (λ i. rows-so-far (draft cs (sym no-fields i) (sym no-methods i) None []))
-          , and-from _ _ (le-leb _ _ (omega (arith, s .number))) (s .formed) ))
+        let no-fields : fs ≡ [] = nil-from-length fs (omega (arith, ltb-false _ _ t)) in
+        let no-methods : ms ≡ [] = nil-from-length ms (omega (arith, ltb-false _ _ t)) in (
+          sym (append-nil (classes-rows 0 cs)) ∙ (λ i. rows-so-far (draft cs (sym no-fields i) (sym no-methods i) None [])),
+          and-from _ _ (le-leb _ _ (omega (arith, s .number))) (s .formed),
+        ))
 
   -- what a field or a heading is added to: nothing is open, and the numbers are those of the next row
   pub record Turned (begins : Bool) (cs : List Class) (fs : List ℕ) (ms : List Method) (h : Option Heading) (ss : List Operation) (e : Draft) : Type 0 where
@@ -224,7 +226,7 @@ module _ (levels : ℕ) where
     pub rows : rows-so-far (draft classes fields methods None []) ≡ rows-so-far (draft cs fs ms h ss)
 
   pub turned : (begins : Bool) (cs : List Class) (fs : List ℕ) (ms : List Method) (h : Option Heading) (ss : List Operation) (e : Draft) → Closed cs fs ms h ss e
-    → (begins ≡ true → (0 < length fs + (length ms + open-methods h)) × (length cs ≤ 6)) → Turned begins cs fs ms h ss e
+      → (begins ≡ true → (0 < length fs + (length ms + open-methods h)) × (length cs ≤ 6)) → Turned begins cs fs ms h ss e
   turned true cs fs ms h ss e c may =
       let n = c .count in
       let q = may refl in
@@ -245,10 +247,10 @@ module _ (levels : ℕ) where
 
   -- a field, a heading or a statement is added
   field-added : (cs : List Class) (fs : List ℕ) (l : ℕ) → Sound (draft cs fs [] None []) → length fs ≤ 7 → ltb l levels ≡ true
-    → Sound (draft cs (fs ++ l ∷ []) [] None []) × (rows-so-far (draft cs (fs ++ l ∷ []) [] None []) ≡ rows-so-far (draft cs fs [] None []) ++ field-row (length cs) (length fs) l ∷ [])
+      → Sound (draft cs (fs ++ l ∷ []) [] None []) × (rows-so-far (draft cs (fs ++ l ∷ []) [] None []) ≡ rows-so-far (draft cs fs [] None []) ++ field-row (length cs) (length fs) l ∷ [])
   field-added cs fs l s few t =
-      let k = length-append fs (l ∷ []) in
-      ( record {
+      let k = length-append fs (l ∷ []) in (
+        record {
           number = s .number;
           formed = s .formed;
           few-fields = omega (arith, k);
@@ -256,42 +258,44 @@ module _ (levels : ℕ) where
           few-methods = omega arith;
           bodies = refl;
           headed = refl;
-        }
-      , ap (λ rs. classes-rows 0 cs ++ rs)
-          (append-nil (field-rows (length cs) 0 (fs ++ l ∷ [])) ∙ fields-push (length cs) 0 fs l ∙ ap (λ n. field-rows (length cs) 0 fs ++ field-row (length cs) n l ∷ []) (zero-add (length fs)))
-        ∙ sym (append-assoc (classes-rows 0 cs) (field-rows (length cs) 0 fs) (field-row (length cs) (length fs) l ∷ []))
-        ∙ ap (λ rs. (classes-rows 0 cs ++ rs) ++ field-row (length cs) (length fs) l ∷ []) (sym (append-nil (field-rows (length cs) 0 fs))) )
+        },
+        ap (λ rs. classes-rows 0 cs ++ rs)
+            (append-nil (field-rows (length cs) 0 (fs ++ l ∷ [])) ∙ fields-push (length cs) 0 fs l ∙ ap (λ n. field-rows (length cs) 0 fs ++ field-row (length cs) n l ∷ []) (zero-add (length fs)))
+            ∙ sym (append-assoc (classes-rows 0 cs) (field-rows (length cs) 0 fs) (field-row (length cs) (length fs) l ∷ []))
+            ∙ ap (λ rs. (classes-rows 0 cs ++ rs) ++ field-row (length cs) (length fs) l ∷ []) (sym (append-nil (field-rows (length cs) 0 fs))),
+      )
 
   -- the rows of an open method stand last
   last-rows : (cs : List Class) (fs : List ℕ) (ms : List Method) (rs more : List Row)
-    → (classes-rows 0 cs ++ (field-rows (length cs) 0 fs ++ (methods-rows (length cs) 0 ms ++ (rs ++ more))))
+      → (classes-rows 0 cs ++ (field-rows (length cs) 0 fs ++ (methods-rows (length cs) 0 ms ++ (rs ++ more))))
       ≡ ((classes-rows 0 cs ++ (field-rows (length cs) 0 fs ++ (methods-rows (length cs) 0 ms ++ rs))) ++ more)
   last-rows cs fs ms rs more = simp append-assoc
 
   heading-added : (cs : List Class) (fs : List ℕ) (ms : List Method) (line k : ℕ) → Sound (draft cs fs ms None []) → length ms ≤ 3 → ltb k 5 ≡ true
-    → Sound (draft cs fs ms (Some (record { line = line; parameters = k })) [])
+      → Sound (draft cs fs ms (Some (record { line = line; parameters = k })) [])
       × (rows-so-far (draft cs fs ms (Some (record { line = line; parameters = k })) []) ≡ rows-so-far (draft cs fs ms None []) ++ head-row (length cs) (length ms) k ∷ [])
-  heading-added cs fs ms line k s few t =
-      ( record {
-          number = s .number;
-          formed = s .formed;
-          few-fields = s .few-fields;
-          labels = s .labels;
-          few-methods = omega arith;
-          bodies = s .bodies;
-          headed = (t, omega arith, refl);
-        }
-      , last-rows cs fs ms [] (head-row (length cs) (length ms) k ∷ []) )
+  heading-added cs fs ms line k s few t = (
+    record {
+      number = s .number;
+      formed = s .formed;
+      few-fields = s .few-fields;
+      labels = s .labels;
+      few-methods = omega arith;
+      bodies = s .bodies;
+      headed = (t, omega arith, refl);
+    },
+    last-rows cs fs ms [] (head-row (length cs) (length ms) k ∷ []),
+  )
 
   statement-added : (cs : List Class) (fs : List ℕ) (ms : List Method) (h : Heading) (ss : List Operation) (o : Operation) → Sound (draft cs fs ms (Some h) ss) → length ss ≤ 31
-    → in-range levels (length fs) o ≡ true
-    → Sound (draft cs fs ms (Some h) (ss ++ o ∷ []))
+      → in-range levels (length fs) o ≡ true
+      → Sound (draft cs fs ms (Some h) (ss ++ o ∷ []))
       × (rows-so-far (draft cs fs ms (Some h) (ss ++ o ∷ [])) ≡ rows-so-far (draft cs fs ms (Some h) ss) ++ statement-row (length cs) (length ms) o ∷ [])
   statement-added cs fs ms h ss o s few t =
       let k = length-append ss (o ∷ []) in
       let q = s .headed in
-      let write = statement-row (length cs) (length ms) in
-      ( record {
+      let write = statement-row (length cs) (length ms) in (
+        record {
           number = s .number;
           formed = s .formed;
           few-fields = s .few-fields;
@@ -299,9 +303,10 @@ module _ (levels : ℕ) where
           few-methods = s .few-methods;
           bodies = s .bodies;
           headed = (q .0, omega (arith, k), every-push (in-range levels (length fs)) ss o (q .2) t);
-        }
-      , ap (λ rs. classes-rows 0 cs ++ (field-rows (length cs) 0 fs ++ (methods-rows (length cs) 0 ms ++ (head-row (length cs) (length ms) (h .parameters) ∷ rs)))) (map-push write ss o)
-        ∙ last-rows cs fs ms (head-row (length cs) (length ms) (h .parameters) ∷ map write ss) (write o ∷ []) )
+        },
+        ap (λ rs. classes-rows 0 cs ++ (field-rows (length cs) 0 fs ++ (methods-rows (length cs) 0 ms ++ (head-row (length cs) (length ms) (h .parameters) ∷ rs)))) (map-push write ss o)
+            ∙ last-rows cs fs ms (head-row (length cs) (length ms) (h .parameters) ∷ map write ss) (write o ∷ []),
+      )
 
   -- ONE ROW
 
@@ -326,13 +331,13 @@ module _ (levels : ℕ) where
 
   -- what the row closes is closed
   turned-draft : (d : Draft) (r : Row) (b : Bool) (e : Draft) → Sound d → begins-class (place d) r ≡ b → close-body d ≡ Ok e
-    → Turned b (d .classes) (d .fields) (d .methods) (d .heading) (d .statements) e
+      → Turned b (d .classes) (d .fields) (d .methods) (d .heading) (d .statements) e
   turned-draft d r b e s g c =
       turned b _ _ _ _ _ e (closed-body (d .classes) (d .fields) (d .methods) (d .heading) (d .statements) e s c)
-        (λ t. let x = begins-only (place d) r (g ∙ t) in (x .0, x .1))
+      (λ t. let x = begins-only (place d) r (g ∙ t) in (x .0, x .1))
 
   next-field : (line : ℕ) (d : Draft) (r : Row) (b : Bool) (i : Item) (e : Draft) → Sound d → r .kind ≡ Field → field-follows (place d) r ≡ true → begins-class (place d) r ≡ b
-    → label levels r ≡ Some i → take-in line b i d ≡ Ok e → Next d r e
+      → label levels r ≡ Some i → take-in line b i d ≡ Ok e → Next d r e
   next-field line d r b i e s k f g t h =
       let q = label-only levels r i t in
       let l = q .0 in
@@ -343,13 +348,13 @@ module _ (levels : ℕ) where
       let is-e : with-field (turn-class b x) l ≡ e = cc in
       let here : draft (u .classes) (u .fields) (u .methods) None [] ≡ draft (u .classes) (u .fields) [] None [] = ap (λ ms. draft (u .classes) (u .fields) ms None []) none-yet in
       make-next d (draft (u .classes) (u .fields) [] None []) (draft (u .classes) (u .fields ++ l ∷ []) [] None []) e r (field-row (length (u .classes)) (length (u .fields)) l)
-        (field-added (u .classes) (u .fields) l (subst Sound here (u .sound)) (subst (λ n. n ≤ 7) (sym (u .field-number)) (a .3)) (q .3)) refl
-        (ap rows-so-far (sym here) ∙ u .rows)
-        (row-is r _ 0 Field _ (a .1 ∙ ap pos (sym (u .class-number))) (a .0) k (q .2 ∙ ap (λ z. three z (pos l) (pos 0)) (a .2 ∙ ap pos (sym (u .field-number)))))
-        (ap (λ y. with-field y l) (sym (u .is ∙ here)) ∙ is-e))
+      (field-added (u .classes) (u .fields) l (subst Sound here (u .sound)) (subst (λ n. n ≤ 7) (sym (u .field-number)) (a .3)) (q .3)) refl
+      (ap rows-so-far (sym here) ∙ u .rows)
+      (row-is r _ 0 Field _ (a .1 ∙ ap pos (sym (u .class-number))) (a .0) k (q .2 ∙ ap (λ z. three z (pos l) (pos 0)) (a .2 ∙ ap pos (sym (u .field-number)))))
+      (ap (λ y. with-field y l) (sym (u .is ∙ here)) ∙ is-e))
 
   next-head : (line : ℕ) (d : Draft) (r : Row) (b : Bool) (i : Item) (e : Draft) → Sound d → r .kind ≡ Parameters → method-follows (place d) r ≡ true → begins-class (place d) r ≡ b
-    → head r ≡ Some i → take-in line b i d ≡ Ok e → Next d r e
+      → head r ≡ Some i → take-in line b i d ≡ Ok e → Next d r e
   next-head line d r b i e s k f g t h =
       let q = head-only r i t in
       let n = q .0 in
@@ -358,16 +363,16 @@ module _ (levels : ℕ) where
       let a = method-at (place d) r b g f in
       let is-e : with-heading (turn-class b x) line n ≡ e = cc in
       make-next d (draft (u .classes) (u .fields) (u .methods) None []) (draft (u .classes) (u .fields) (u .methods) (Some (record { line = line; parameters = n })) []) e r
-        (head-row (length (u .classes)) (length (u .methods)) n)
-        (heading-added (u .classes) (u .fields) (u .methods) line n (u .sound) (subst (λ y. y ≤ 3) (sym (u .method-number)) (a .2)) (q .3)) tt
-        (u .rows)
-        (row-is r _ _ Parameters _ (a .0 ∙ ap pos (sym (u .class-number))) (a .1 ∙ ap pos (sym (u .method-number))) k (q .2))
-        (ap (λ y. with-heading y line n) (sym (u .is)) ∙ is-e))
+      (head-row (length (u .classes)) (length (u .methods)) n)
+      (heading-added (u .classes) (u .fields) (u .methods) line n (u .sound) (subst (λ y. y ≤ 3) (sym (u .method-number)) (a .2)) (q .3)) tt
+      (u .rows)
+      (row-is r _ _ Parameters _ (a .0 ∙ ap pos (sym (u .class-number))) (a .1 ∙ ap pos (sym (u .method-number))) k (q .2))
+      (ap (λ y. with-heading y line n) (sym (u .is)) ∙ is-e))
 
   -- a statement needs an open method
   next-action : (cs : List Class) (fs : List ℕ) (ms : List Method) (h : Option Heading) (ss : List Operation) (r : Row) (o : Operation) → Sound (draft cs fs ms h ss) → Bare h ms
-    → statement-follows (place (draft cs fs ms h ss)) r ≡ true → in-range levels (length fs) o ≡ true → r .kind ≡ Statement (letter-of o) → columns r ≡ columns-of o
-    → Next (draft cs fs ms h ss) r (draft cs fs ms h (ss ++ o ∷ []))
+      → statement-follows (place (draft cs fs ms h ss)) r ≡ true → in-range levels (length fs) o ≡ true → r .kind ≡ Statement (letter-of o) → columns r ≡ columns-of o
+      → Next (draft cs fs ms h ss) r (draft cs fs ms h (ss ++ o ∷ []))
   next-action cs fs ms None ss r o s z f t k c =
       let x = and-parts (is (r .class) (length cs)) _ f in
       let y = and-parts (ltb 0 (length ms + 0)) _ (x .1) in
@@ -378,11 +383,11 @@ module _ (levels : ℕ) where
       let y = and-parts (ltb 0 (length ms + 1)) _ (x .1) in
       let w = and-parts (is (r .method) (length ms + 1 - 1)) _ (y .1) in
       make-next (draft cs fs ms (Some h) ss) (draft cs fs ms (Some h) ss) (draft cs fs ms (Some h) (ss ++ o ∷ [])) _ r (statement-row (length cs) (length ms) o)
-        (statement-added cs fs ms h ss o s (leb-true _ _ (w .1)) t) tt refl
-        (row-is r _ _ _ _ (is-only (r .class) _ (x .0)) (is-only (r .method) _ (w .0) ∙ ap pos last) k c) refl
+      (statement-added cs fs ms h ss o s (leb-true _ _ (w .1)) t) tt refl
+      (row-is r _ _ _ _ (is-only (r .class) _ (x .0)) (is-only (r .method) _ (w .0) ∙ ap pos last) k c) refl
 
   next-statement : (line : ℕ) (d : Draft) (r : Row) (l : Letter) (b : Bool) (i : Item) (e : Draft) → Sound d → Bare (d .heading) (d .methods) → Fits r → r .kind ≡ Statement l
-    → statement-follows (place d) r ≡ true → item levels (length (d .fields)) (Statement l) r ≡ Some i → take-in line b i d ≡ Ok e → Next d r e
+      → statement-follows (place d) r ≡ true → item levels (length (d .fields)) (Statement l) r ≡ Some i → take-in line b i d ≡ Ok e → Next d r e
   next-statement line d r l b i e s z fit k f t h =
       by-and (statement levels (length (d .fields)) l r) (λ o. Some (Action o)) i (Next d r e) t (λ o g j.
       let q = statement-only levels (length (d .fields)) l r o fit g in
@@ -392,13 +397,13 @@ module _ (levels : ℕ) where
       subst (Next d r) is-e (next-action (d .classes) (d .fields) (d .methods) (d .heading) (d .statements) r o s z f (q .range) (k ∙ ap Statement (q .letter)) (q .told)))
 
   next-kind : (line : ℕ) (d : Draft) (r : Row) (kind : Kind) (x : Entry) (e : Draft) → Sound d → Bare (d .heading) (d .methods) → Fits r → r .kind ≡ kind → follows kind (place d) r ≡ true
-    → item levels (length (d .fields)) kind r ≡ Some (x .item) → begins-class (place d) r ≡ x .«begins_class» → take-in line (x .«begins_class») (x .item) d ≡ Ok e → Next d r e
+      → item levels (length (d .fields)) kind r ≡ Some (x .item) → begins-class (place d) r ≡ x .«begins_class» → take-in line (x .«begins_class») (x .item) d ≡ Ok e → Next d r e
   next-kind line d r Field x e s z fit k f t g h = next-field line d r _ _ e s k f g t h
   next-kind line d r Parameters x e s z fit k f t g h = next-head line d r _ _ e s k f g t h
   next-kind line d r (Statement l) x e s z fit k f t g h = next-statement line d r l _ _ e s z fit k f t h
 
   pub next-row : (line : ℕ) (d : Draft) (r : Row) (x : Entry) (e : Draft) → Sound d → Bare (d .heading) (d .methods) → Fits r → entry levels line (place d) r ≡ Ok x
-    → take-in line (x .«begins_class») (x .item) d ≡ Ok e → Next d r e
+      → take-in line (x .«begins_class») (x .item) d ≡ Ok e → Next d r e
   next-row line d r x e s z fit n h = let q = by-entry levels line (place d) r x n in next-kind line d r (r .kind) x e s z fit refl (q .0) (q .1) (q .2) h
 
   -- THE END OF THE TEXT

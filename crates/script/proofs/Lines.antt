@@ -70,7 +70,7 @@ kind-back (Statement l) rest = letter-back l rest
 
 -- one kind, or another
 pick : (b : ℕ) (bs : List ℕ) (k : Kind) (other : Got Kind) (l : Kind) (rest : List ℕ) → (other ≡ got l rest → (b ∷ bs) ≡ kind-code l ∷ rest)
-  → cond (eqb b (kind-code k)) (got k bs) other ≡ got l rest → (b ∷ bs) ≡ kind-code l ∷ rest
+    → cond (eqb b (kind-code k)) (got k bs) other ≡ got l rest → (b ∷ bs) ≡ kind-code l ∷ rest
 pick b bs k other l rest h =
     cond-both (eqb b (kind-code k)) (got k bs) other (λ g. g ≡ got l rest → (b ∷ bs) ≡ kind-code l ∷ rest)
     (λ t e. let same : k ≡ l = cc in cons-same (eqb-true b (kind-code k) t ∙ ap kind-code same) (cc))
@@ -133,15 +133,15 @@ by-then bad k y rest P e f = none (cc)
 
 module _ {Y : Type 0} (y : Y) (rest : List ℕ) (P : Type 0) where
   by-number : (bs : List ℕ) (k : ℤ → List ℕ → Got Y) → then (number-at bs) k ≡ got y rest
-    → ((z : ℤ) (bs′ : List ℕ) → bs ≡ signed z ++ bs′ → SFits w32 z → k z bs′ ≡ got y rest → P) → P
+      → ((z : ℤ) (bs′ : List ℕ) → bs ≡ signed z ++ bs′ → SFits w32 z → k z bs′ ≡ got y rest → P) → P
   by-number bs k e f = by-then (number-at bs) k y rest P e (λ z bs′ g. let q = number-only bs z bs′ g in f z bs′ (q .0) (q .2))
 
   by-byte : (c : ℕ) (bs : List ℕ) (k : Unit {0} → List ℕ → Got Y) → then (byte-at c bs) k ≡ got y rest
-    → ((bs′ : List ℕ) → bs ≡ c ∷ bs′ → k tt bs′ ≡ got y rest → P) → P
+      → ((bs′ : List ℕ) → bs ≡ c ∷ bs′ → k tt bs′ ≡ got y rest → P) → P
   by-byte c bs k e f = by-then (byte-at c bs) k y rest P e (λ u bs′ g. f bs′ (byte-only c bs u bs′ g))
 
   by-kind : (bs : List ℕ) (k : Kind → List ℕ → Got Y) → then (kind-at bs) k ≡ got y rest
-    → ((l : Kind) (bs′ : List ℕ) → bs ≡ kind-code l ∷ bs′ → k l bs′ ≡ got y rest → P) → P
+      → ((l : Kind) (bs′ : List ℕ) → bs ≡ kind-code l ∷ bs′ → k l bs′ ≡ got y rest → P) → P
   by-kind bs k e f = by-then (kind-at bs) k y rest P e (λ l bs′ g. f l bs′ (kind-only bs l bs′ g))
 
 column-only : (bs : List ℕ) (z : ℤ) (rest : List ℕ) → column-at bs ≡ got z rest → (bs ≡ 32 ∷ (signed z ++ rest)) × SFits w32 z
@@ -150,14 +150,14 @@ column-only bs z rest e =
 
 module _ {Y : Type 0} (y : Y) (rest : List ℕ) (P : Type 0) where
   by-column : (bs : List ℕ) (k : ℤ → List ℕ → Got Y) → then (column-at bs) k ≡ got y rest
-    → ((z : ℤ) (bs′ : List ℕ) → bs ≡ 32 ∷ (signed z ++ bs′) → SFits w32 z → k z bs′ ≡ got y rest → P) → P
+      → ((z : ℤ) (bs′ : List ℕ) → bs ≡ 32 ∷ (signed z ++ bs′) → SFits w32 z → k z bs′ ≡ got y rest → P) → P
   by-column bs k e f = by-then (column-at bs) k y rest P e (λ z bs′ g. let q = column-only bs z bs′ g in f z bs′ (q .0) (q .1))
 
 -- the pieces of a row, put together
 assembled : (r : Row) (rest bs b1 b2 b3 b4 b5 b6 b7 b8 b9 b10 b11 : List ℕ)
-  → bs ≡ signed (r .class) ++ b1 → b1 ≡ 32 ∷ (signed (r .method) ++ b2) → b2 ≡ 32 ∷ b3 → b3 ≡ kind-code (r .kind) ∷ b4 → b4 ≡ 32 ∷ (signed (r .to) ++ b5)
-  → b5 ≡ 32 ∷ (signed (r .a) ++ b6) → b6 ≡ 32 ∷ (signed (r .b) ++ b7) → b7 ≡ 32 ∷ (signed (r .c) ++ b8) → b8 ≡ 32 ∷ (signed (r .d) ++ b9)
-  → b9 ≡ 32 ∷ (signed (r .e) ++ b10) → b10 ≡ 32 ∷ (signed (r .f) ++ b11) → b11 ≡ 10 ∷ rest → bs ≡ row-text r ++ rest
+    → bs ≡ signed (r .class) ++ b1 → b1 ≡ 32 ∷ (signed (r .method) ++ b2) → b2 ≡ 32 ∷ b3 → b3 ≡ kind-code (r .kind) ∷ b4 → b4 ≡ 32 ∷ (signed (r .to) ++ b5)
+    → b5 ≡ 32 ∷ (signed (r .a) ++ b6) → b6 ≡ 32 ∷ (signed (r .b) ++ b7) → b7 ≡ 32 ∷ (signed (r .c) ++ b8) → b8 ≡ 32 ∷ (signed (r .d) ++ b9)
+    → b9 ≡ 32 ∷ (signed (r .e) ++ b10) → b10 ≡ 32 ∷ (signed (r .f) ++ b11) → b11 ≡ 10 ∷ rest → bs ≡ row-text r ++ rest
 assembled r rest bs b1 b2 b3 b4 b5 b6 b7 b8 b9 b10 b11 e1 e2 e3 e4 e5 e6 e7 e8 e9 e10 e11 e12 =
     rw (e1, e2, e3, e4, e5, e6, e7, e8, e9, e10, e11, e12) (sym (row-onto r rest))
 

@@ -25,7 +25,7 @@ both-same false a b c d h = refl
 
 -- the branches of a statement, by two tests that agree on every range that is shorter than its own
 pub branches-same : (inner other : Ranges) (depth : ℕ) (s : Statement) (at end : ℕ) → at < end
-  → ((d low high : ℕ) → high - low < end - at → inner d low high ≡ other d low high) → branches-fit inner depth s at end ≡ branches-fit other depth s at end
+    → ((d low high : ℕ) → high - low < end - at → inner d low high ≡ other d low high) → branches-fit inner depth s at end ≡ branches-fit other depth s at end
 branches-same inner other depth (Constant to number) at end h same = refl
 branches-same inner other depth (Itself to) at end h same = refl
 branches-same inner other depth (Copy to from) at end h same = refl
@@ -49,7 +49,7 @@ module _ (body : List Statement) where
   nested-none (suc fuel) depth at end h = let e : ltb at end ≡ false = grind (arith, tells) in rw e
 
   nested-some : (fuel depth at end : ℕ) → at < end
-    → nested (suc fuel) body depth at end ≡ (branches-fit (nested fuel body) depth (here at) at end && nested fuel body depth (at + 1 + branch-rows (here at)) end)
+      → nested (suc fuel) body depth at end ≡ (branches-fit (nested fuel body) depth (here at) at end && nested fuel body depth (at + 1 + branch-rows (here at)) end)
   nested-some fuel depth at end h = let e : ltb at end ≡ true = grind (arith, tells) in rw e
 
   -- enough fuel is as good as any other
@@ -57,13 +57,13 @@ module _ (body : List Statement) where
   enough zero more depth at end h k = nested-none zero depth at end (omega arith) ∙ sym (nested-none more depth at end (omega arith))
   enough (suc fuel) zero depth at end h k = nested-none (suc fuel) depth at end (omega arith) ∙ sym (nested-none zero depth at end (omega arith))
   enough (suc fuel) (suc more) depth at end h k =
-      elim (cases-lt at end)
-        [ inl lt ↦
-          let fit = branches-same (nested fuel body) (nested more body) depth (here at) at end lt (λ d low high l. enough fuel more d low high (omega arith) (omega arith)) in
-          let rest = enough fuel more depth (at + 1 + branch-rows (here at)) end (omega arith) (omega arith) in
-          nested-some fuel depth at end lt ∙ (λ i. fit i && rest i) ∙ sym (nested-some more depth at end lt)
+      elim (cases-lt at end) [
+        | inl lt ↦
+            let fit = branches-same (nested fuel body) (nested more body) depth (here at) at end lt (λ d low high l. enough fuel more d low high (omega arith) (omega arith)) in
+            let rest = enough fuel more depth (at + 1 + branch-rows (here at)) end (omega arith) (omega arith) in
+            nested-some fuel depth at end lt ∙ (λ i. fit i && rest i) ∙ sym (nested-some more depth at end lt)
         | inr ge ↦ nested-none (suc fuel) depth at end ge ∙ sym (nested-none (suc more) depth at end ge)
-        ]
+      ]
 
   -- a range, with as much fuel as it has statements
   abbrev pub range : Ranges
@@ -71,7 +71,7 @@ module _ (body : List Statement) where
 
   -- the first statement of a range, and the rest
   pub first-of : (depth at end : ℕ) → at < end
-    → range depth at end ≡ (branches-fit range depth (here at) at end && range depth (at + 1 + branch-rows (here at)) end)
+      → range depth at end ≡ (branches-fit range depth (here at) at end && range depth (at + 1 + branch-rows (here at)) end)
   first-of depth at end h =
       let few : suc (end - at - 1) ≡ end - at = omega arith in
       let fit = branches-same (nested (end - at - 1) body) range depth (here at) at end h (λ d low high l. enough (end - at - 1) (high - low) d low high (omega arith) (omega arith)) in
@@ -85,18 +85,18 @@ module _ (body : List Statement) where
     branch-never h = first-of depth at end some ∙ rw is (never depth h)
       where
         never : (d : ℕ) → (d ≡ 0) ⊎ (end - at ≤ first + second)
-          → (branches-fit range d (Branch guard first second) at end && range depth (at + 1 + (first + second)) end) ≡ false
+            → (branches-fit range d (Branch guard first second) at end && range depth (at + 1 + (first + second)) end) ≡ false
         never zero h = refl
         never (suc d) (inl z) = absurd (omega arith)
         never (suc d) (inr l) = let e : leb (at + 1 + first + second) end ≡ false = grind (arith, tells) in rw e
 
     pub branch-first : 0 < depth → first + second < end - at
-      → range depth at end ≡ ((range (depth - 1) (at + 1) (at + 1 + first) && range (depth - 1) (at + 1 + first) (at + 1 + first + second)) && range depth (at + 1 + first + second) end)
+        → range depth at end ≡ ((range (depth - 1) (at + 1) (at + 1 + first) && range (depth - 1) (at + 1 + first) (at + 1 + first + second)) && range depth (at + 1 + first + second) end)
     branch-first deep fits =
         first-of depth at end some ∙ rw is (inside depth deep)
       where
         inside : (d : ℕ) → 0 < d → (branches-fit range d (Branch guard first second) at end && range depth (at + 1 + (first + second)) end)
-          ≡ ((range (d - 1) (at + 1) (at + 1 + first) && range (d - 1) (at + 1 + first) (at + 1 + first + second)) && range depth (at + 1 + first + second) end)
+            ≡ ((range (d - 1) (at + 1) (at + 1 + first) && range (d - 1) (at + 1 + first) (at + 1 + first + second)) && range depth (at + 1 + first + second) end)
         inside zero l = absurd (omega arith)
         inside (suc d) l =
             let e : leb (at + 1 + first + second) end ≡ true = grind (arith, tells) in
@@ -105,13 +105,13 @@ module _ (body : List Statement) where
             rw (e, p, q)
 
   plain : (depth at end : ℕ) (s : Statement) → here at ≡ s → at < end → branches-fit range depth s at end ≡ true → branch-rows s ≡ 0
-    → range depth at end ≡ range depth (at + 1) end
+      → range depth at end ≡ range depth (at + 1) end
   plain depth at end s e h fit none =
       let q : at + 1 + 0 ≡ at + 1 = omega arith in first-of depth at end h ∙ rw (e, fit, none, q)
 
   -- a range that begins with any other statement
   pub plain-first : (depth at end : ℕ) (s : Statement) → here at ≡ s → ((guard : Variable) (first second : ℕ) → s ≡ Branch guard first second → ⊥) → at < end
-    → range depth at end ≡ range depth (at + 1) end
+      → range depth at end ≡ range depth (at + 1) end
   plain-first depth at end (Constant to number) e other h = plain depth at end _ e h refl refl
   plain-first depth at end (Itself to) e other h = plain depth at end _ e h refl refl
   plain-first depth at end (Copy to from) e other h = plain depth at end _ e h refl refl

@@ -37,16 +37,16 @@ by-rest (Ok y) bs x rest e = let p : _≡_ {A = Entry × List ℕ} (y, bs) (x, r
 by-rest (Err f) bs x rest e = none (cc)
 
 by-entry : (levels line : ℕ) (p : Place) (g : Got Row) (x : Entry) (rest : List ℕ) → entry-got levels line p g ≡ Ok (x, rest)
-  → (r : Row) × (g ≡ got r rest) × (entry levels line p r ≡ Ok x)
+    → (r : Row) × (g ≡ got r rest) × (entry levels line p r ≡ Ok x)
 by-entry levels line p bad x rest e = none (cc)
 by-entry levels line p (got r bs) x rest e = let q = by-rest (entry levels line p r) bs x rest e in (r, ap (λ l. got r l) (q .1), q .0)
 
 by-taken : (line : ℕ) (d : Draft) (q : Result (Entry × List ℕ) RowFault) (e : Draft) (rest : List ℕ) → taken line d q ≡ Ok (e, rest)
-  → (x : Entry) × (q ≡ Ok (x, rest)) × (take-in line (x .«begins_class») (x .item) d ≡ Ok e)
+    → (x : Entry) × (q ≡ Ok (x, rest)) × (take-in line (x .«begins_class») (x .item) d ≡ Ok e)
 by-taken line d (Ok p) e rest h =
     by-bind (take-in line (p .0 .«begins_class») (p .0 .item) d) (λ f. Ok (f, p .1)) (e, rest)
-      ((x : Entry) × (Ok p ≡ Ok (x, rest)) × (take-in line (x .«begins_class») (x .item) d ≡ Ok e)) h
-      (λ f g k. let q : _≡_ {A = Draft × List ℕ} (f, p .1) (e, rest) = cc in (p .0, ap (λ l. Ok (p .0, l)) (ap (λ z. z .1) q), g ∙ ap (λ z. Ok (z .0)) q))
+    ((x : Entry) × (Ok p ≡ Ok (x, rest)) × (take-in line (x .«begins_class») (x .item) d ≡ Ok e)) h
+    (λ f g k. let q : _≡_ {A = Draft × List ℕ} (f, p .1) (e, rest) = cc in (p .0, ap (λ l. Ok (p .0, l)) (ap (λ z. z .1) q), g ∙ ap (λ z. Ok (z .0)) q))
 by-taken line d (Err f) e rest h = none (cc)
 
 pub row-taken : (levels line : ℕ) (d : Draft) (bs : List ℕ) (e : Draft) (rest : List ℕ) → row-from levels line d bs ≡ Ok (e, rest) → Taken levels line d bs e rest
@@ -68,7 +68,7 @@ fuel-enough zero g levels line d (b ∷ bs) p q = absurd (omega arith)
 fuel-enough (suc f) zero levels line d (b ∷ bs) p q = absurd (omega arith)
 fuel-enough (suc f) (suc g) levels line d (b ∷ bs) p q =
     bind-same (row-from levels line d (b ∷ bs)) (λ x. rows-from f levels (line + 1) (x .0) (x .1)) (λ x. rows-from g levels (line + 1) (x .0) (x .1))
-      (λ x e. let s = rest-shorter levels line d (b ∷ bs) (x .0) (x .1) e in fuel-enough f g levels (line + 1) (x .0) (x .1) (omega arith) (omega arith))
+    (λ x e. let s = rest-shorter levels line d (b ∷ bs) (x .0) (x .1) e in fuel-enough f g levels (line + 1) (x .0) (x .1) (omega arith) (omega arith))
 
 -- the rows in some bytes, with as much fuel as there are bytes
 abbrev pub rows-in : ℕ → ℕ → Draft → List ℕ → Result Program BodyFault
@@ -80,21 +80,21 @@ rows-end levels line d [] h = refl
 rows-end levels line d (b ∷ bs) h = absurd (omega arith)
 
 rows-more : (levels line : ℕ) (d : Draft) (bs : List ℕ) (e : Draft) (rest : List ℕ) → row-from levels line d bs ≡ Ok (e, rest) → length rest < length bs
-  → rows-in levels line d bs ≡ rows-in levels (line + 1) e rest
+    → rows-in levels line d bs ≡ rows-in levels (line + 1) e rest
 rows-more levels line d [] e rest g s = absurd (omega arith)
 rows-more levels line d (b ∷ bs) e rest g s = rw g (fuel-enough (length bs) (length rest) levels (line + 1) e rest (omega arith) (omega arith))
 
 -- a row that is there is read, and what it says is taken in
 pub rows-feed : (levels line : ℕ) (d : Draft) (r : Row) (rest : List ℕ) (x : Entry) (e : Draft) → Fits r → entry levels line (place d) r ≡ Ok x
-  → take-in line (x .«begins_class») (x .item) d ≡ Ok e → rows-in levels line d (row-text r ++ rest) ≡ rows-in levels (line + 1) e rest
+    → take-in line (x .«begins_class») (x .item) d ≡ Ok e → rows-in levels line d (row-text r ++ rest) ≡ rows-in levels (line + 1) e rest
 rows-feed levels line d r rest x e fit n t =
     let g : row-from levels line d (row-text r ++ rest) ≡ Ok (e, rest) = rw (row-back r rest fit, n, t) in
     rows-more levels line d (row-text r ++ rest) e rest g (rest-shorter levels line d (row-text r ++ rest) e rest g)
 
 -- a row was read: what is left still tells the whole, and the next line is counted within the n bytes of the text
 pub rows-step : (levels line next n : ℕ) (d : Draft) (bs : List ℕ) (e : Draft) (rest : List ℕ) (whole : Result Program BodyFault)
-  → whole ≡ rows-in levels line d bs → line + length bs ≤ n → row-from levels line d bs ≡ Ok (e, rest) → next ≡ line + 1
-  → (whole ≡ rows-in levels next e rest) × (next + length rest ≤ n)
+    → whole ≡ rows-in levels line d bs → line + length bs ≤ n → row-from levels line d bs ≡ Ok (e, rest) → next ≡ line + 1
+    → (whole ≡ rows-in levels next e rest) × (next + length rest ≤ n)
 rows-step levels line next n d bs e rest whole w h g l =
     let s = rest-shorter levels line d bs e rest g in (w ∙ rows-more levels line d bs e rest g s ∙ ap (λ k. rows-in levels k e rest) (sym l), omega arith)
 
@@ -105,6 +105,6 @@ rows-stop levels line d (b ∷ bs) f h g = rw g
 
 -- after the names line
 pub rows-begin : (levels line : ℕ) (d : Draft) (text bs : List ℕ) → bytes-at names text ≡ got tt bs → line ≡ 2 → d ≡ nothing
-  → (reading levels text ≡ rows-in levels line d bs) × (line + length bs ≤ length text)
+    → (reading levels text ≡ rows-in levels line d bs) × (line + length bs ≤ length text)
 rows-begin levels line d text bs g l n =
     let whole = ap length (bytes-only names text tt bs g) ∙ length-append names bs in (rw (g, l, n), omega arith)

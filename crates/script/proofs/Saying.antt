@@ -57,19 +57,19 @@ said : (levels fields : ℕ) (l : Letter) (r : Row) (x s : Operation) → Some x
 said levels fields l r x s e h = let same : x ≡ s = cc in subst (Says levels fields l r) same h
 
 by-variable : {Y : Type 0} (fields : ℕ) (z : ℤ) (k : Variable → Option Y) (y : Y) (P : Type 0) → and (variable fields z) k ≡ Some y
-  → ((v : Variable) → z ≡ variable-column v → exists fields v ≡ true → k v ≡ Some y → P) → P
+    → ((v : Variable) → z ≡ variable-column v → exists fields v ≡ true → k v ≡ Some y → P) → P
 by-variable fields z k y P e f = by-and (variable fields z) k y P e (λ v g. let q = variable-only fields z v g in f v (q .0) (q .1))
 
 by-optional : {Y : Type 0} (fields : ℕ) (z : ℤ) (k : Option Variable → Option Y) (y : Y) (P : Type 0) → and (optional fields z) k ≡ Some y
-  → ((o : Option Variable) → z ≡ optional-column o → exists-if-any fields o ≡ true → k o ≡ Some y → P) → P
+    → ((o : Option Variable) → z ≡ optional-column o → exists-if-any fields o ≡ true → k o ≡ Some y → P) → P
 by-optional fields z k y P e f = by-and (optional fields z) k y P e (λ v g. let q = optional-only fields z v g in f v (q .0) (q .1))
 
 by-below : {Y : Type 0} (z : ℤ) (limit : ℕ) (k : ℕ → Option Y) (y : Y) (P : Type 0) → and (below z limit) k ≡ Some y
-  → ((n : ℕ) → z ≡ pos n → ltb n limit ≡ true → k n ≡ Some y → P) → P
+    → ((n : ℕ) → z ≡ pos n → ltb n limit ≡ true → k n ≡ Some y → P) → P
 by-below z limit k y P e f = by-and (below z limit) k y P e (λ n g. let q = below-only z limit n g in f n (q .0) (q .1))
 
 two-only : (fields : ℕ) (r : Row) (p : Variable × Variable) → two-variables fields r ≡ Some p
-  → (columns r ≡ three (variable-column (p .0)) (variable-column (p .1)) (pos 0)) × (exists fields (p .0) ≡ true) × (exists fields (p .1) ≡ true)
+    → (columns r ≡ three (variable-column (p .0)) (variable-column (p .1)) (pos 0)) × (exists fields (p .0) ≡ true) × (exists fields (p .1) ≡ true)
 two-only fields r p e =
     let Q : Variable × Variable → Type 0 = λ q. (columns r ≡ three (variable-column (q .0)) (variable-column (q .1)) (pos 0)) × (exists fields (q .0) ≡ true) × (exists fields (q .1) ≡ true) in
     by-when (unused-b r) _ p (Q p) e (λ u e1.
@@ -78,7 +78,7 @@ two-only fields r p e =
     let same : _≡_ {A = Variable × Variable} (to, a) p = cc in subst Q same (from-b r _ _ p2 p3 u, x2, x3))))
 
 three-only : (fields : ℕ) (r : Row) (p : Variable × Variable × Variable) → three-variables fields r ≡ Some p
-  → (columns r ≡ three (variable-column (p .0)) (variable-column (p .1)) (variable-column (p .2))) × ((exists fields (p .0) && (exists fields (p .1) && exists fields (p .2))) ≡ true)
+    → (columns r ≡ three (variable-column (p .0)) (variable-column (p .1)) (variable-column (p .2))) × ((exists fields (p .0) && (exists fields (p .1) && exists fields (p .2))) ≡ true)
 three-only fields r p e =
     let Q : Variable × Variable × Variable → Type 0 = λ q. (columns r ≡ three (variable-column (q .0)) (variable-column (q .1)) (variable-column (q .2))) × ((exists fields (q .0) && (exists fields (q .1) && exists fields (q .2))) ≡ true) in
     by-when (unused-c r) _ p (Q p) e (λ u e1.
@@ -99,7 +99,7 @@ passes : (fields : ℕ) (to a b : ℤ) (x : Columns) (t s : Arguments) → Some 
 passes fields to a b x t s e p h = let same : t ≡ s = cc in subst (Passes fields to a b x) same (record { told = p; exist = h })
 
 arguments-only : (fields : ℕ) (to a b : ℤ) (v w x y : Option Variable) (s : Arguments) → exists-if-any fields v ≡ true → exists-if-any fields w ≡ true
-  → exists-if-any fields x ≡ true → exists-if-any fields y ≡ true → arguments v w x y ≡ Some s → Passes fields to a b (four to a b v w x y) s
+    → exists-if-any fields x ≡ true → exists-if-any fields y ≡ true → arguments v w x y ≡ Some s → Passes fields to a b (four to a b v w x y) s
 arguments-only fields to a b None None None None s h1 h2 h3 h4 e = passes fields to a b _ Empty s e refl refl
 arguments-only fields to a b None None None (Some y) s h1 h2 h3 h4 e = none (cc)
 arguments-only fields to a b None None (Some x) y s h1 h2 h3 h4 e = none (cc)
@@ -153,7 +153,7 @@ module _ (levels fields : ℕ) where
       let q = and-parts _ _ u in
       let d = unused-d-only r (q .1) in
       said levels fields I r (Branch guard first second) s e4
-        (record { letter = refl; told = rw (is-only (r .to) 0 (q .0), p2, p3, p4, d .0, d .1, d .2); range = and-from _ _ x2 (and-from _ _ x3 x4) })))))
+      (record { letter = refl; told = rw (is-only (r .to) 0 (q .0), p2, p3, p4, d .0, d .1, d .2); range = and-from _ _ x2 (and-from _ _ x3 x4) })))))
   statement-only M r s h e =
       by-optional fields (r .to) _ s (Says levels fields M r s) e (λ to p1 x1 e1.
       by-variable fields (r .a) _ s (Says levels fields M r s) e1 (λ receiver p2 x2 e2.
@@ -161,7 +161,7 @@ module _ (levels fields : ℕ) where
       by-and (passed fields r) _ s (Says levels fields M r s) e3 (λ args g e4.
       let q = passed-only fields r _ _ _ args p1 p2 p3 g in
       said levels fields M r (Invoke to receiver method args) s e4
-        (record { letter = refl; told = q .told; range = and-from _ _ x1 (and-from _ _ x2 (and-from _ _ x3 (q .exist))) })))))
+      (record { letter = refl; told = q .told; range = and-from _ _ x1 (and-from _ _ x2 (and-from _ _ x3 (q .exist))) })))))
   statement-only G r s h e =
       by-and (two-variables fields r) _ s (Says levels fields G r s) e (λ p g e1.
       let q = two-only fields r p g in said levels fields G r (Get (p .0) (p .1)) s e1 (record { letter = refl; told = q .0; range = and-from _ _ (q .1) (q .2) }))
@@ -171,7 +171,7 @@ module _ (levels fields : ℕ) where
       by-below (r .a) 8 _ s (Says levels fields O r s) e2 (λ class p3 x3 e3.
       by-below (r .b) levels _ s (Says levels fields O r s) e3 (λ level p4 x4 e4.
       said levels fields O r (Create to class level) s e4
-        (record { letter = refl; told = from-c r _ _ _ p2 p3 p4 u; range = and-from _ _ x2 (and-from _ _ x3 x4) })))))
+      (record { letter = refl; told = from-c r _ _ _ p2 p3 p4 u; range = and-from _ _ x2 (and-from _ _ x3 x4) })))))
   statement-only R r s h e =
       by-when (is (r .to) 0 && unused-b r) _ s (Says levels fields R r s) e (λ u e1.
       by-variable fields (r .a) _ s (Says levels fields R r s) e1 (λ value p x e2.
@@ -290,7 +290,7 @@ module _ (fields : ℕ) where
       let f = first-three (optional-column to) (variable-column receiver) (pos number) args in
       rw (f .0, f .1, f .2, optional-back fields to (m .0), var receiver (n .0), below-back number 4 (o .0), passed-back class method kind (optional-column to) (variable-column receiver) (pos number) args (o .1))
   statement-back levels class method kind (Get to future) h = let m = and-parts _ _ h in rw (var to (m .0), var future (m .1))
-  statement-back levels class method kind (Create to class0 level) h = 
+  statement-back levels class method kind (Create to class0 level) h =
       let m = and-parts _ _ h in
       let n = and-parts _ _ (m .1) in
       rw (var to (m .0), below-back class0 8 (n .0), below-back level levels (n .1))

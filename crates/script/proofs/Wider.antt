@@ -49,7 +49,7 @@ module _ (n m : ℕ) (wider : n ≤ m) where
       let c = and-parts (ltb 0 (length (x .fields) + length (x .methods))) _ (b .1) in
       let d = and-parts (every (λ l. ltb l n) (x .fields)) _ (c .1) in
       and-from _ _ (a .0) (and-from _ _ (b .0) (and-from _ _ (c .0)
-        (and-from _ _ (every-more _ _ (x .fields) below-more (d .0)) (every-more _ _ (x .methods) (method-more (length (x .fields))) (d .1)))))
+      (and-from _ _ (every-more _ _ (x .fields) below-more (d .0)) (every-more _ _ (x .methods) (method-more (length (x .fields))) (d .1)))))
 
   pub formed-more : (p : Program) → well-formed n p ≡ true → well-formed m p ≡ true
   formed-more p h = let a = and-parts (leb (length p) 8) _ h in and-from _ _ (a .0) (every-more _ _ p class-more (a .1))

@@ -62,8 +62,8 @@ abbrev pub nested : ℕ → List Statement → ℕ → ℕ → ℕ → Bool
 nested zero body depth at end = leb end at
 nested (suc fuel) body depth at end =
     cond (ltb at end)
-      (branches-fit (nested fuel body) depth (getD body at idle) at end && nested fuel body depth (at + 1 + branch-rows (getD body at idle)) end)
-      true
+    (branches-fit (nested fuel body) depth (getD body at idle) at end && nested fuel body depth (at + 1 + branch-rows (getD body at idle)) end)
+    true
 
 -- no statement is an R
 abbrev pub no-return : List Statement → Bool

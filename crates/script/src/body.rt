@@ -24,7 +24,11 @@ fn nests(body: &[Statement], start: usize, end: usize, depth: u8) -> bool
 {
     let mut at = start;
     while at < end {
-        if let Statement::Branch { guard: _, first, second } = body[at] {
+        if let Statement::Branch {
+            guard: _,
+            first,
+            second,
+        } = body[at] {
             if depth == 0 {
                 return false;
             }

@@ -22,27 +22,65 @@ pub enum Arguments {
 #[derive(Clone, Copy)]
 pub enum Statement {
     /// `N`: `to` becomes a number.
-    Constant { to: Variable, number: i32 },
+    Constant {
+        to: Variable,
+        number: i32,
+    },
     /// `T`: `to` becomes the running object's name.
-    Itself { to: Variable },
+    Itself {
+        to: Variable,
+    },
     /// `C`: `to` becomes a copy of `from`.
-    Copy { to: Variable, from: Variable },
+    Copy {
+        to: Variable,
+        from: Variable,
+    },
     /// `A`: `to` becomes `left` + `right`.
-    Add { to: Variable, left: Variable, right: Variable },
+    Add {
+        to: Variable,
+        left: Variable,
+        right: Variable,
+    },
     /// `D`: `to` becomes `left` − `right`.
-    Subtract { to: Variable, left: Variable, right: Variable },
+    Subtract {
+        to: Variable,
+        left: Variable,
+        right: Variable,
+    },
     /// `L`: `to` becomes 1 if `left` < `right`, else 0.
-    Less { to: Variable, left: Variable, right: Variable },
+    Less {
+        to: Variable,
+        left: Variable,
+        right: Variable,
+    },
     /// `I`: the next `first` statements where `guard` is a number other than 0, or the `second` statements after those where it is 0.
-    Branch { guard: Variable, first: u8, second: u8 },
+    Branch {
+        guard: Variable,
+        first: u8,
+        second: u8,
+    },
     /// `M`: calls a method of the object that `receiver` names; `to` becomes the name of the reply's future.
-    Invoke { to: Option<Variable>, receiver: Variable, method: u8, arguments: Arguments },
+    Invoke {
+        to: Option<Variable>,
+        receiver: Variable,
+        method: u8,
+        arguments: Arguments,
+    },
     /// `G`: `to` becomes what the future that `future` names holds.
-    Get { to: Variable, future: Variable },
+    Get {
+        to: Variable,
+        future: Variable,
+    },
     /// `O`: `to` becomes the name of a new object of a class at a level.
-    Create { to: Variable, class: u8, level: Level },
+    Create {
+        to: Variable,
+        class: u8,
+        level: Level,
+    },
     /// `R`: ends the call with `value` as its reply.
-    Return { value: Variable },
+    Return {
+        value: Variable,
+    },
 }
 
 /// A method: how many parameters it takes, and its body.

@@ -9,14 +9,14 @@ use crate::class::Class;
 use crate::class::Method;
 use crate::class::Statement;
 use crate::fault::LoadError;
+use crate::fault::LoadErrorFromBody;
+use crate::fault::LoadErrorFromRefused;
 use crate::heading::Heading;
 use crate::row::Entry;
 use crate::row::Item;
 use crate::row::Place;
 use order::Level;
 use std::alloc::Global;
-use crate::fault::LoadErrorFromBody;
-use crate::fault::LoadErrorFromRefused;
 
 /// What was read so far: the classes that are complete; of the class at hand its fields, the methods that are complete, and, where a method
 /// is open, its heading and its statements.
@@ -76,7 +76,11 @@ impl Draft {
         };
         heading.check(&self.statements)?;
         let statements = std::mem::replace(&mut self.statements, Vec::new(self.heap));
-        self.methods.push(Method { parameters: heading.parameters, statements })?;
+        self.methods
+            .push(Method {
+                parameters: heading.parameters,
+                statements,
+            })?;
         self.heading = None;
         Ok(())
     }
@@ -130,7 +134,14 @@ impl Draft {
         if self.place().has_begun() {
             self.close_class()?;
         }
-        let Draft { heap: _, classes, fields: _, methods: _, heading: _, statements: _ } = self;
+        let Draft {
+            heap: _,
+            classes,
+            fields: _,
+            methods: _,
+            heading: _,
+            statements: _,
+        } = self;
         Ok(classes)
     }
 }

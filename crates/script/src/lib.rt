@@ -1,10 +1,16 @@
 //! Script texts: what a loaded program is, and the way from a text's bytes to it or to its first fault.
-pub mod body;
+//!
+//! A text goes through three layers, each with a fault type of its own: `reader` (bytes: the names line, a row's form, letter and numbers),
+//! `row` (rows: sequence, limits, ranges) and `body` (bodies: branches, R, an empty body). `draft` puts together what the rows say, and
+//! `loading` goes the whole way.
+mod body;
 pub mod class;
-pub mod draft;
+mod draft;
 pub mod fault;
-pub mod heading;
-pub mod load;
+mod heading;
+mod loading;
 pub mod program;
-pub mod reader;
-pub mod row;
+mod reader;
+mod row;
+
+pub use loading::load;

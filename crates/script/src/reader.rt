@@ -65,7 +65,11 @@ impl<'a> Reader<'a> {
     pub fn new(text: &'a [u8]) -> Reader<'a>
         ensures { λ r. ⌜ left r ≡ now (text .entry) ⌝ ∗ ⌜ r .line ≡ 1 ⌝ }
     {
-        Reader { text, place: 0, line: 1 }
+        Reader {
+            text,
+            place: 0,
+            line: 1,
+        }
     }
 }
 
@@ -264,6 +268,17 @@ impl Reader<'_> {
         let e = self.column()?;
         let f = self.column()?;
         self.line_feed()?;
-        Ok(Row { class, method, kind, to, a, b, c, d, e, f })
+        Ok(Row {
+            class,
+            method,
+            kind,
+            to,
+            a,
+            b,
+            c,
+            d,
+            e,
+            f,
+        })
     }
 }

@@ -64,7 +64,10 @@ impl Place {
         if self.next_class(row) {
             return holds(row.to, 0);
         }
-        holds(row.class, self.class) && self.methods == 0 && self.fields <= 7 && holds(row.to, self.fields)
+        holds(row.class, self.class)
+            && self.methods == 0
+            && self.fields <= 7
+            && holds(row.to, self.fields)
     }
 
     fn takes_method(&self, row: &Row) -> bool
@@ -79,7 +82,10 @@ impl Place {
     fn takes_statement(&self, row: &Row) -> bool
         ensures { λ r. ⌜ r ≡ statement-follows (now (self .entry)) (now (row .entry)) ⌝ }
     {
-        holds(row.class, self.class) && self.methods > 0 && holds(row.method, self.methods - 1) && self.statements <= 31
+        holds(row.class, self.class)
+            && self.methods > 0
+            && holds(row.method, self.methods - 1)
+            && self.statements <= 31
     }
 
     fn takes(&self, row: &Row) -> bool
@@ -144,7 +150,12 @@ fn optional_of(column: i32, fields: usize) -> Option<Option<Variable>>
 }
 
 /// The arguments in four columns, where there is no gap.
-fn arguments_of(a: Option<Variable>, b: Option<Variable>, c: Option<Variable>, d: Option<Variable>) -> Option<Arguments>
+fn arguments_of(
+    a: Option<Variable>,
+    b: Option<Variable>,
+    c: Option<Variable>,
+    d: Option<Variable>,
+) -> Option<Arguments>
     ensures { λ r. ⌜ r ≡ arguments a b c d ⌝ }
 {
     match (a, b, c, d) {
@@ -230,7 +241,11 @@ impl Row {
         let guard = variable_of(self.a, fields)?;
         let first = number_below(self.b, 33)?;
         let second = number_below(self.c, 33)?;
-        Some(Statement::Branch { guard, first, second })
+        Some(Statement::Branch {
+            guard,
+            first,
+            second,
+        })
     }
 
     fn arguments(&self, fields: usize) -> Option<Arguments>
@@ -250,7 +265,12 @@ impl Row {
         let receiver = variable_of(self.a, fields)?;
         let method = number_below(self.b, 4)?;
         let arguments = self.arguments(fields)?;
-        Some(Statement::Invoke { to, receiver, method, arguments })
+        Some(Statement::Invoke {
+            to,
+            receiver,
+            method,
+            arguments,
+        })
     }
 
     fn creation(&self, levels: u8, fields: usize) -> Option<Statement>

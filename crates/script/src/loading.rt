@@ -18,15 +18,15 @@ ghost use Rattle.script.specs.Laws.{Reads-exactly, One-text, Nests-four-deep};
 use crate::class::Class;
 use crate::draft::Draft;
 use crate::fault::LoadError;
+use crate::fault::LoadErrorFromRow;
 use crate::fault::RowFault;
+use crate::fault::RowFaultFromByte;
 use crate::program::Program;
 use crate::reader::Reader;
 use crate::row::Entry;
 use crate::row::Place;
 use order::Order;
 use std::alloc::Global;
-use crate::fault::LoadErrorFromRow;
-use crate::fault::RowFaultFromByte;
 
 /// A reader of the text, past the names line.
 fn open(text: &[u8]) -> Result<Reader<'_>, RowFault>

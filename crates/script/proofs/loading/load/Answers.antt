@@ -5,7 +5,7 @@ use Rattle.script.specs.Classes.{classes-of}
 use Rattle.script.proofs.Exactly.{only, reads-exactly, one-text}
 use Rattle.script.proofs.Depth.{nests-four-deep}
 use Rattle.script.proofs.Wider.{formed-more}
-use Rattle.script.proofs.load.load.Needs as need
+use Rattle.script.proofs.loading.load.Needs as need
 
 pub returns-in-Break-classes : need.returns-in-Break-classes
 returns-in-Break-classes g c =

@@ -5,7 +5,7 @@ use Rattle.script.specs.Readers.{left}
 use Rattle.script.specs.Reading.{reading}
 use Rattle.script.specs.Drafts.{draft-of}
 use Rattle.script.proofs.Rowing.{rows-in}
-use Rattle.script.proofs.load.read.Given as given
+use Rattle.script.proofs.loading.read.Given as given
 
 -- what is left tells what the text is read as, and the line is counted within the bytes that were read
 abbrev pub Inv-loop-reader : given.InvT-loop-reader

@@ -1,0 +1,4 @@
+pub mod Lines
+pub mod Oldest
+pub mod Parts
+pub mod Order
