@@ -71,6 +71,13 @@ fn read(heap: Global, levels: u8, text: &[u8]) -> Result<Vec<Class>, LoadError>
     draft.finish()
 }
 
+/// The classes that a text is read as under an order.
+fn read_under<O: Order>(heap: Global, order: &O, text: &[u8]) -> Result<Vec<Class>, LoadError>
+    ensures { λ r. ⌜ Gives (λ v. classes-of (vec-items v)) r (reading (O·Order .levels (now (order .entry)) .count) (now (text .entry))) ⌝ }
+{
+    read(heap, order.count(), text)
+}
+
 /// Loads a script text under an order of levels: the program that it is read as, or its first fault, or want of memory.
 ///
 /// Besides, for the order's count of levels: a text is read as a program exactly when it is the text of a well-formed program's rows, and the
@@ -82,6 +89,6 @@ pub fn load<O: Order>(heap: Global, order: &O, text: &[u8]) -> Result<Program, L
     ensures once { λ _. ⌜ One-text (O·Order .levels (now (order .entry)) .count) ⌝ }
     ensures depth { λ _. ⌜ Nests-four-deep (O·Order .levels (now (order .entry)) .count) ⌝ }
 {
-    let classes = read(heap, order.count(), text)?;
+    let classes = read_under(heap, order, text)?;
     Ok(Program { classes })
 }

@@ -1,4 +1,3 @@
-use Prim.Native.Nat.{_≤_}
 use borrow.Author.Needs.{needs}
 use Rattle.std.specs.Of.Vec.{vec-items}
 use Rattle.script.specs.Classes.{classes-of}
@@ -14,9 +13,10 @@ returns-in-Break-classes g c =
 
 pub ghost-result : need.ghost-result
 ghost-result g c =
+    let o = g .O·Order .levels (c .args .order .now) in
     let l = g .O·Order·met .lawful (c .args .order .now) in
-    let few : c .count .result ≤ 8 = rw (c .count .ensures) (l .few) in
-    (formed-more (c .count .result) 8 few (classes-of (vec-items (c .in-Continue-classes .classes))) (only (c .count .result) (c .args .text .now) _ (c .in-Continue-classes .ensures tt) .1), tt)
+    let classes = classes-of (vec-items (c .in-Continue-classes .classes)) in
+    (formed-more (o .count) 8 (l .few) classes (only (o .count) (c .args .text .now) classes (c .in-Continue-classes .ensures tt) .1), tt)
 
 pub returns : need.returns
 returns g c =
