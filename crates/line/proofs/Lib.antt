@@ -1,4 +1,5 @@
 pub mod Lines
+pub mod Places
 pub mod Oldest
 pub mod Parts
 pub mod Order

@@ -1,7 +1,7 @@
--- The elements of a line, and what is looked up in them. Assumes nothing.
+-- The elements of a line, and what is looked up in them, by place or by a test. Assumes nothing.
 use mathlib.Core.List.{List, [], _∷_}
 use mathlib.Core.Bool.{Bool, true, false, cond}
-use Prim.Native.Nat.{ℕ, _+_}
+use Prim.Native.Nat.{ℕ, zero, suc, _+_}
 use Rattle.std.specs.declared.option.Option.{Option}
 use Rattle.std.specs.declared.option.Option.the-variants.{Some, None}
 
@@ -10,6 +10,12 @@ abbrev pub elements : {X : Type 0} → List (Option X) → List X
 elements [] = []
 elements (Some x ∷ slots) = x ∷ elements slots
 elements (None ∷ slots) = []
+
+-- the element at the place, if there is one; the first place is 0
+abbrev pub nth : {X : Type 0} → List X → ℕ → Option X
+nth [] i = None
+nth (x ∷ xs) zero = Some x
+nth (x ∷ xs) (suc i) = nth xs i
 
 -- whether every slot is free
 abbrev pub free : {X : Type 0} → List (Option X) → Bool

@@ -1,4 +1,4 @@
-//! A line: a bounded container, over lent slots, for everything that waits. docs/lines.md tells of it.
+//! A line: a bounded container, over lent slots, for everything that waits or is kept in order. docs/lines.md tells of it.
 
 mod element;
 mod laws;
@@ -8,11 +8,14 @@ mod table;
 pub use element::Element;
 pub use laws::order_is_kept;
 pub use slots::add;
+pub use slots::at_place;
+pub use slots::count;
 pub use slots::look;
 pub use slots::replace;
 pub use slots::take;
-pub use table::SLOTS;
 pub use table::add_at;
+pub use table::count_at;
+pub use table::entry_at;
 pub use table::look_at;
 pub use table::replace_at;
 pub use table::take_at;

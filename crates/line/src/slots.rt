@@ -7,11 +7,11 @@ ghost use lib.Dec.{ltb};
 ghost use Rattle.std.specs.Results.{Cases, isOk};
 ghost use Rattle.std.specs.Options.{Cases as BySome};
 ghost use Rattle.std.specs.shelf.Lists.{removed};
-ghost use Rattle.line.specs.Slots.{elements, compact, oldest};
+ghost use Rattle.line.specs.Slots.{elements, compact, nth, oldest};
 use crate::element::Element;
 
-// How many elements wait.
-fn count<E: Copy>(slots: &[Option<E>]) -> usize
+/// How many elements wait.
+pub fn count<E: Copy>(slots: &[Option<E>]) -> usize
     ensures { λ r. ⌜ r ≡ length (elements (now (slots .entry))) ⌝ }
 {
     for (i, slot) in slots.iter().enumerate() {
@@ -21,6 +21,18 @@ fn count<E: Copy>(slots: &[Option<E>]) -> usize
         }
     }
     slots.len()
+}
+
+/// The element at the place, if there is one.
+pub fn at_place<E: Copy>(slots: &[Option<E>], place: usize) -> Option<E>
+    requires { ⌜ compact (now slots) ≡ true ⌝ }
+    ensures { λ r. ⌜ r ≡ nth (elements (now (slots .entry))) place ⌝ }
+{
+    if place < slots.len() {
+        slots[place]
+    } else {
+        None
+    }
 }
 
 /// Finds the oldest element with the key, and answers its place and the element. The line stays as it is.
@@ -42,18 +54,18 @@ pub fn look<E: Element + Copy>(slots: &[Option<E>], key: E::Key) -> Option<(usiz
     None
 }
 
-/// Puts the element last. It is refused exactly when all slots are taken: then it is given back, and the slots
-/// are as they stood.
-pub fn add<E: Copy>(slots: &mut [Option<E>], e: E) -> Result<(), E>
+/// Puts the element last, and answers its place. It is refused exactly when all slots are taken: then it is given
+/// back, and the slots are as they stood.
+pub fn add<E: Copy>(slots: &mut [Option<E>], e: E) -> Result<usize, E>
     requires { ⌜ compact (now slots) ≡ true ⌝ }
     ensures accepts { λ r. ⌜ isOk r ≡ ltb (length (elements (now (slots .entry)))) (length (now (slots .entry))) ⌝ }
-    ensures cases { λ r. ⌜ Cases r (λ _. elements (now (slots .exit)) ≡ elements (now (slots .entry)) ++ e ∷ []) (λ y. (y ≡ e) × (now (slots .exit) ≡ now (slots .entry))) ⌝ }
+    ensures cases { λ r. ⌜ Cases r (λ place. (place ≡ length (elements (now (slots .entry)))) × (elements (now (slots .exit)) ≡ elements (now (slots .entry)) ++ e ∷ [])) (λ y. (y ≡ e) × (now (slots .exit) ≡ now (slots .entry))) ⌝ }
     ensures compact { λ _. ⌜ compact (now (slots .exit)) ≡ true ⌝ }
 {
-    let free = count(slots);
-    if free < slots.len() {
-        slots[free] = Some(e);
-        Ok(())
+    let next = count(slots);
+    if next < slots.len() {
+        slots[next] = Some(e);
+        Ok(next)
     } else {
         Err(e)
     }

@@ -48,6 +48,11 @@ impl Element for Note as NoteElement {
     }
 }
 
+// How many notes, and how many objects, a level has room for.
+const NOTES: usize = 16;
+
+const OBJECTS: usize = 8;
+
 fn call_to(number: u32, argument: u8) -> Call {
     let receiver = Name { home: 1, number };
     Call { receiver, argument }
@@ -55,12 +60,23 @@ fn call_to(number: u32, argument: u8) -> Call {
 
 #[test]
 fn sixteen_fit() -> Result<(), Fail> {
-    let mut slots = [None; SLOTS];
-    for text in 0..16u16 {
-        check(add(&mut slots, Note { class: 3, text }).is_ok())?;
+    let mut slots = [None; NOTES];
+    for place in 0..NOTES {
+        check_eq(add(&mut slots, Note { class: 3, text: 1 }), Ok(place))?;
     }
-    let one_more = Note { class: 3, text: 16 };
+    let one_more = Note { class: 3, text: 2 };
     check_eq(add(&mut slots, one_more), Err(one_more))
+}
+
+#[test]
+fn eight_fit_at_a_level() -> Result<(), Fail> {
+    let mut table = [None; 16];
+    for number in 0..OBJECTS {
+        check_eq(add_at(&mut table, OBJECTS, 1, 'o'), Ok(number))?;
+    }
+    check_eq(add_at(&mut table, OBJECTS, 1, 'p'), Err('p'))?;
+    check_eq(count_at(&table, OBJECTS, 1), OBJECTS)?;
+    check_eq(count_at(&table, OBJECTS, 0), 0)
 }
 
 #[test]
@@ -77,7 +93,7 @@ fn oldest_first() -> Result<(), Fail> {
     };
     check_eq(take(&mut slots, place), first)?;
     check_eq(look(&slots, first.receiver), Some((1, second)))?;
-    check(add(&mut slots, first).is_ok())?;
+    check_eq(add(&mut slots, first), Ok(2))?;
     check_eq(slots, [Some(other), Some(second), Some(first)])
 }
 
@@ -97,7 +113,9 @@ fn replace_keeps_the_place() -> Result<(), Fail> {
             ..found
         },
     );
-    check_eq(slots, [Some(call_to(7, 9)), Some(call_to(8, 2)), None])
+    check_eq(at_place(&slots, 0), Some(call_to(7, 9)))?;
+    check_eq(at_place(&slots, 1), Some(call_to(8, 2)))?;
+    check_eq(count(&slots), 2)
 }
 
 #[test]
@@ -105,13 +123,15 @@ fn levels_stay_apart() -> Result<(), Fail> {
     let mut table = [None; 48];
     let high = Note { class: 3, text: 1 };
     let low = Note { class: 3, text: 2 };
-    check(add_at(&mut table, 2, high).is_ok())?;
-    check(add_at(&mut table, 0, low).is_ok())?;
-    check_eq(look_at(&table, 1, 3), None)?;
-    let Some((place, _)) = look_at(&table, 2, 3) else {
+    check_eq(add_at(&mut table, NOTES, 2, high), Ok(0))?;
+    check_eq(add_at(&mut table, NOTES, 0, low), Ok(0))?;
+    check_eq(look_at(&table, NOTES, 1, 3), None)?;
+    check_eq(entry_at(&table, NOTES, 0, 32), None)?;
+    let Some((place, _)) = look_at(&table, NOTES, 2, 3) else {
         return Err(Fail::new("none is found"));
     };
-    replace_at(&mut table, 2, place, Note { class: 4, text: 1 });
-    check_eq(take_at(&mut table, 2, place).class, 4)?;
-    check_eq(look_at(&table, 0, 3), Some((0, low)))
+    replace_at(&mut table, NOTES, 2, place, Note { class: 4, text: 1 });
+    check_eq(take_at(&mut table, NOTES, 2, place).class, 4)?;
+    check_eq(entry_at(&table, NOTES, 2, 0), None)?;
+    check_eq(entry_at(&table, NOTES, 0, 0), Some(low))
 }

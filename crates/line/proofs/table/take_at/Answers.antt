@@ -1,12 +1,18 @@
-use borrow.Author.Needs.{needs}
+use Prim.Native.Nat.{_*_, _≤_}
+use native.Mathlib.Omega.{arith}
+use lib.ListN.{length}
+use borrow.Author.Needs.{needs, scaled-fits≤}
 use Rattle.line.proofs.Parts.{lent, packed-at}
 use Rattle.line.proofs.table.take_at.Needs as need
 
+pub offset-table-level : need.offset-table-level
+offset-table-level g c = let h : c .args .level * c .args .room ≤ length (c .args .table .now) = omega (arith, c .pre .level) in search (needs, scaled-fits≤)
+
 pub take-requires : need.take-requires
-take-requires g c κs = record { within = search needs; compact = packed-at (c .args .level) (c .args .table .now) (c .pre .packed) (c .pre .level) }
+take-requires g c κs = record { within = search needs; compact = packed-at (c .args .room) (c .args .level) (c .args .table .now) (c .pre .packed) (c .pre .level) }
 
 pub returns : need.returns
 returns g c =
-    let l = lent (c .args .level) (c .args .table .now) (c .take .last .slots) (c .pre .level) (c .take .kept .slots) in
+    let l = lent (c .args .room) (c .args .level) (c .args .table .now) (c .take .last .slots) (c .pre .level) (c .take .kept .slots) in
     let p = c .take .ensures in
     record { taken = p .taken; elements = rw (l .same) (p .elements); others = l .others; packed = l .stays (c .pre .packed) (p .compact) }

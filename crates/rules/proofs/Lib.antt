@@ -1,0 +1,15 @@
+pub mod Listing
+pub mod Owing
+pub mod Ranges
+pub mod Invariant
+pub mod Keeping
+pub mod Turning
+pub mod Fuel
+pub mod Formed
+pub mod Serving
+pub mod Lawful
+pub mod Relation
+pub mod Confining
+pub mod Agreeing
+pub mod Hiding
+pub mod Secret

@@ -1,0 +1,10 @@
+pub mod Lists
+pub mod Values
+pub mod Tables
+pub mod Wrapper
+pub mod Statements
+pub mod Turns
+pub mod Calling
+pub mod Answers
+pub mod Laws
+pub mod Cases

@@ -1,0 +1,4 @@
+pub mod Halving
+pub mod Entering
+pub mod Fuel
+pub mod Stack
