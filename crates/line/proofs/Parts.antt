@@ -8,13 +8,16 @@ use native.Mathlib.Nat.{suc-mul, mul-le-mul-right, le-div-iff-mul-le, div-zero}
 use native.Mathlib.Omega.{arith}
 use lib.ListN.{length, drop, take}
 use borrow.Rule.Slice.PartMut.{putMid}
+use Rattle.std.specs.Results.{Cases}
 use Rattle.std.specs.declared.option.Option.{Option}
 use Rattle.std.specs.declared.option.Option.the-variants.{Some, None}
+use Rattle.std.specs.declared.result.Result.{Result}
+use Rattle.std.specs.declared.result.Result.the-variants.{Ok, Err}
 use Rattle.std.proofs.shelf.Parts.{between-is, take-putMid-below, drop-putMid, between-putMid}
 use Rattle.std.proofs.shelf.Edits.{length-between}
 use Rattle.std.proofs.shelf.Lists.{take-append-drop, length-append, length-take, length-drop}
 use Rattle.std.proofs.shelf.Tests.{cases-lt, cases-eq, and-parts, and-from}
-use Rattle.line.specs.Slots.{free, compact}
+use Rattle.line.specs.Slots.{elements, free, compact}
 use Rattle.line.specs.Tables.{HasLevel, OthersStay, part, packed-below, packed}
 use Rattle.line.proofs.Lines.{free-compact}
 
@@ -124,3 +127,8 @@ lent room level xs ys within kept =
           (λ ne. rw (others m ne) (packed-at room m xs p (omega (arith, long))))
           (cases-eq m level));
     }
+
+-- what `add` tells of a lent part, told of the table
+pub lent-add : {X : Type 0} (room level : ℕ) (before after slots : List (Option X)) → Lent room level before after slots → (r : Result ℕ X) (e : X) → Cases r (λ place. (place ≡ length (elements (part room level before))) × (elements slots ≡ elements (part room level before) ++ e ∷ [])) (λ y. (y ≡ e) × (slots ≡ part room level before)) → Cases r (λ place. (place ≡ length (elements (part room level before))) × (elements (part room level after) ≡ elements (part room level before) ++ e ∷ [])) (λ y. (y ≡ e) × (after ≡ before))
+lent-add room level before after slots l (Ok place) e told = (told .0, ap elements (l .same) ∙ told .1)
+lent-add room level before after slots l (Err y) e told = (told .0, l .back (told .1))

@@ -8,8 +8,6 @@ mod table;
 pub use element::Element;
 pub use laws::order_is_kept;
 pub use slots::add;
-pub use slots::at_place;
-pub use slots::count;
 pub use slots::look;
 pub use slots::replace;
 pub use slots::take;

@@ -1,11 +1,10 @@
 -- More fuel than statements changes nothing, so a range is its first statement, by its halves, and then the rest.
 use mathlib.Core.Path.{_≡_, refl, sym, ap, fun-ext, _∙_}
-use mathlib.Core.Bool.{true, false}
+use mathlib.Core.Bool.{true}
 use mathlib.Core.List.{List}
-use mathlib.Core.Logic.{_⊎_, inl, inr}
+use mathlib.Core.Logic.{inl, inr}
 use Prim.Native.Nat.{ℕ, zero, suc, _+_, _-_, _<_, _≤_}
 use native.Mathlib.Omega.{arith}
-use lib.Dec.{ltb}
 use lib.ListN.{getD}
 use Rattle.std.proofs.shelf.Ways.{tells}
 use Rattle.std.proofs.shelf.Tests.{cases-lt}
@@ -14,15 +13,15 @@ use Rattle.script.specs.declared.class.Statement.{Statement}
 use Rattle.script.specs.Classes.{Program}
 use Rattle.script.specs.Bodies.{idle, branch-rows, branches-fit}
 use Rattle.script.proofs.Nesting.{range, first-of}
-use Rattle.rules.specs.Statements.{Scene, Running, Step, done, held, Run}
-use Rattle.rules.specs.Turns.{bind, step, exec}
+use Rattle.rules.specs.Statements.{Scene, Running, Step, done, Run}
+use Rattle.rules.specs.Turns.{bind, exec}
 use Rattle.rules.proofs.Turning.{exec-zero, exec-more, exec-done}
 use Rattle.rules.proofs.Listing.{both-left, both-right}
 use Rattle.stepper.specs.declared.machine.Next.{Next}
 use Rattle.stepper.specs.declared.machine.Next.the-variants.{On, Enter, Hold}
 use Rattle.stepper.specs.Halves.{after, changed, leads}
 use Rattle.stepper.proofs.Halving.{two-halves}
-use Rattle.stepper.proofs.Entering.{Entered, enters, inside}
+use Rattle.stepper.proofs.Entering.{enters, inside}
 
 -- the first statement of a range: its branches, the rest, and where both end
 pub record First (body : List Statement) (d at end : ℕ) : Type 0 where

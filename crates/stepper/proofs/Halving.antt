@@ -11,11 +11,11 @@ use Rattle.script.specs.Classes.{Program}
 use Rattle.rules.specs.declared.values.Value.{Value}
 use Rattle.rules.specs.declared.values.Value.the-variants.{Number, ObjectName, FutureName, Marked}
 use Rattle.rules.specs.Values.{nonzero}
-use Rattle.rules.specs.Statements.{Scene, Running, Step, done, held, Run, read, raise, Fetched, gives, waits, branch, received, act}
-use Rattle.rules.specs.Turns.{passing, step}
+use Rattle.rules.specs.Statements.{Scene, Running, done, Run, read, raise, Fetched, gives, waits, branch, received, act}
+use Rattle.rules.specs.Turns.{passing}
 use Rattle.stepper.specs.declared.machine.Next.{Next}
-use Rattle.stepper.specs.declared.machine.Next.the-variants.{On, Enter, Hold}
-use Rattle.stepper.specs.Halves.{after, picked, waiting, taken, does-change, does-lead, passes, changed, leads, Two-halves}
+use Rattle.stepper.specs.declared.machine.Next.the-variants.{On, Enter}
+use Rattle.stepper.specs.Halves.{after, picked, waiting, taken, does-change, does-lead, passes, Two-halves}
 
 -- a choice between two ranges
 after-either : (go : Run) (at : ℕ) (b : Bool) (x y : Next) (r : Running)

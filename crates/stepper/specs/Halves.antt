@@ -1,7 +1,7 @@
 -- One statement in two halves: what it changes, and where it leads.
 use mathlib.Core.Path.{_≡_}
-use mathlib.Core.Bool.{Bool, cond}
-use Prim.Native.Nat.{ℕ, _+_}
+use mathlib.Core.Bool.{cond}
+use Prim.Native.Nat.{ℕ, _+_, _<_}
 use lib.Dec.{ltb}
 use Rattle.order.specs.Levels.{Levels}
 use Rattle.script.specs.declared.class.Variable.{Variable}
@@ -30,6 +30,11 @@ after go at Hold r = held at r
 abbrev pub ends : Outcome → Running → Step
 ends Ended r = done r
 ends (Held at) r = held at r
+
+-- a turn that is held is held by one of the n statements of its body
+abbrev pub Stops-within : ℕ → Outcome → Type 0
+Stops-within n Ended = Unit {0}
+Stops-within n (Held at) = at < n
 
 -- a number other than 0 picks the first branch, 0 the second, anything else neither
 abbrev pub picked : Value → Next → Next → Next

@@ -2,7 +2,7 @@
 ghost use mathlib.Core.Path.{_≡_};
 ghost use mathlib.Core.List.{List};
 ghost use base.Fml.{GName};
-ghost use Prim.Native.Nat.{ℕ, _+_, _<_, _≤_};
+ghost use Prim.Native.Nat.{_+_, _<_, _≤_};
 ghost use lib.ListN.{length, getD};
 ghost use Rattle.order.specs.Levels.{Levels};
 ghost use Rattle.script.specs.Classes.{Program};
@@ -30,7 +30,8 @@ pub enum Next {
 
 /// What a turn works on.
 ///
-/// It holds no order: the order is lent to each call.
+/// It holds no order: the order is lent to each call. What its one method does is told in two halves: where a statement leads, and what it
+/// changes. Before the place where the turn goes on, `pass` is the whole of it.
 pub trait Machine {
     /// The call's locals, the object's fields and the tables, as the rules have them.
     ghost running: { Self → Running };

@@ -1,11 +1,11 @@
 //! A turn, as a loop over ranges of statements.
 ghost use mathlib.Core.Path.{_≡_};
 ghost use mathlib.Core.Bool.{true};
-ghost use Prim.Native.Nat.{ℕ, _<_};
+ghost use Prim.Native.Nat.{_<_};
 ghost use lib.ListN.{length};
 ghost use Rattle.script.specs.Bodies.{branch-rows, nested};
 ghost use Rattle.rules.specs.Turns.{exec};
-ghost use Rattle.stepper.specs.Halves.{ends, Two-halves};
+ghost use Rattle.stepper.specs.Halves.{ends, Stops-within, Two-halves};
 use crate::machine::Machine;
 use crate::machine::Next;
 use order::Level;
@@ -67,6 +67,7 @@ pub fn run<O: Order, M: Machine>(
     requires body { ⌜ now body ≡ M·Machine .scene (now machine) .body ⌝ }
     requires nested { ⌜ nested (length (now body)) (now body) 4 0 (length (now body)) ≡ true ⌝ }
     ensures does { λ r. ⌜ ends r (M·Machine .running (now (machine .exit))) ≡ exec (O·Order .levels (now (order .entry))) (M·Machine .program (now (machine .entry))) (M·Machine .scene (now (machine .entry))) (length (now (body .entry))) 0 (length (now (body .entry))) level (M·Machine .running (now (machine .entry))) ⌝ }
+    ensures place { λ r. ⌜ Stops-within (length (now (body .entry))) r ⌝ }
     ensures halves { λ _. ⌜ Two-halves ⌝ }
     ensures stays { λ _. ⌜ M·Machine .scene (now (machine .exit)) ≡ M·Machine .scene (now (machine .entry)) ⌝ }
     ensures same { λ _. ⌜ M·Machine .program (now (machine .exit)) ≡ M·Machine .program (now (machine .entry)) ⌝ }

@@ -4,10 +4,9 @@ use native.Mathlib.Omega.{arith}
 use lib.Dec.{ltb}
 use lib.ListN.{length}
 use borrow.Author.Needs.{needs, scaled-fits≤}
-use Rattle.std.proofs.shelf.Results.{cases-weaker}
 use Rattle.line.specs.Slots.{elements}
 use Rattle.line.specs.Tables.{part}
-use Rattle.line.proofs.Parts.{lent, length-part, packed-at}
+use Rattle.line.proofs.Parts.{lent, lent-add, length-part, packed-at}
 use Rattle.line.proofs.table.add_at.Needs as need
 
 pub offset-table-level : need.offset-table-level
@@ -22,7 +21,7 @@ returns g c =
     let p = c .add .ensures in
     record {
       accepts = p .accepts ∙ ap (ltb (length (elements (part (c .args .room) (c .args .level) (c .args .table .now))))) (length-part (c .args .room) (c .args .level) (c .args .table .now) (c .pre .level));
-      cases = cases-weaker (c .add .result) (p .cases) (λ _ e. (e .0, ap elements (l .same) ∙ e .1)) (λ _ e. (e .0, l .back (e .1)));
+      cases = lent-add (c .args .room) (c .args .level) (c .args .table .now) _ (c .add .last .slots) l (c .add .result) (c .args .e) (p .cases);
       others = l .others;
       packed = l .stays (c .pre .packed) (p .compact);
     }

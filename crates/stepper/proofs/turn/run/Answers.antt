@@ -1,10 +1,8 @@
 use native.Mathlib.Omega.{arith}
 use borrow.Author.Needs.{needs}
-use mathlib.Core.Path.{_≡_, sym, ap, _∙_}
-use Prim.Native.Nat.{_+_, _<_, _≤_}
-use lib.ListN.{length, getD}
-use Rattle.rules.specs.Statements.{Scene}
-use Rattle.script.specs.Bodies.{idle, branch-rows}
+use mathlib.Core.Path.{ap, _∙_}
+use Prim.Native.Nat.{_<_}
+use lib.ListN.{length}
 use Rattle.stepper.proofs.Halving.{two-halves}
 use Rattle.stepper.proofs.Stack.{ending, going-on, going-in, going-out, room, less-in, left-pop, held-here, ended, fits-now}
 use Rattle.stepper.proofs.turn.run.Needs as need
@@ -75,6 +73,7 @@ returns-in-Hold g c =
     let e = c .in-Hold .ensures tt in
     record {
       does = held-here _ _ _ _ (v .0) (c .if-at-end .taken) _ (c .pre .body) _ (c .rows-of .ensures) _ _ (v .1) (v .2) _ (e .does) (e .next);
+      place = (let w = v .0 .here .within in omega arith);
       halves = two-halves;
       stays = e .stays ∙ v .2;
       same = e .same ∙ v .1;
@@ -85,4 +84,12 @@ returns-in-Hold g c =
 pub returns-then-depth-eq0 : need.returns-then-depth-eq0
 returns-then-depth-eq0 g c =
     let v = c .loop-at .inv in
-    record { does = ended _ _ _ _ (v .0) (c .if-at-end .left) (c .if-depth-eq0 .taken); halves = two-halves; stays = v .2; same = v .1; still = v .3; lent = v .4 }
+    record {
+      does = ended _ _ _ _ (v .0) (c .if-at-end .left) (c .if-depth-eq0 .taken);
+      place = tt;
+      halves = two-halves;
+      stays = v .2;
+      same = v .1;
+      still = v .3;
+      lent = v .4;
+    }
