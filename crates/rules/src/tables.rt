@@ -1,9 +1,13 @@
 //! What the four tables hold: objects, futures, calls in line and notes.
+ghost use mathlib.Core.Bool.{_&&_};
+ghost use lib.Dec.{eqb};
 ghost use mathlib.Core.Path.{_≡_};
 ghost use Rattle.rules.specs.Values.{layer-number};
 use crate::values::Labelled;
 use crate::values::Mark;
 use crate::values::Name;
+use crate::values::NamePartialEq;
+use line::Element;
 use order::Level;
 
 /// Which part of the host made a mark.
@@ -56,6 +60,32 @@ pub struct Call {
     pub locals: [Labelled; 8],
     pub next: u8,
     pub owed: Option<u8>,
+}
+
+/// A call waits in a line under its receiver's name.
+pub impl Element for Call as CallElement {
+    type Key = Name;
+
+    ghost keyOf = { λ c. c .receiver };
+
+    ghost same = { λ a b. eqb (a .home) (b .home) && eqb (a .number) (b .number) };
+
+    fn key(&self) -> Name {
+        self.receiver
+    }
+}
+
+/// A note waits in a line under its class.
+pub impl Element for Note as NoteElement {
+    type Key = u8;
+
+    ghost keyOf = { λ n. n .class };
+
+    ghost same = { eqb };
+
+    fn key(&self) -> u8 {
+        self.class
+    }
 }
 
 /// An object: its class, its level, and its fields; those past its class's count are not used.

@@ -34,7 +34,7 @@ impl Mark {
 }
 
 /// The name of an object or of a future: the level whose table it stands in, and its number there, from 0.
-#[derive(Clone, Copy)]
+#[derive(Clone, Copy, PartialEq)]
 pub struct Name {
     pub home: Level,
     pub number: u8,
