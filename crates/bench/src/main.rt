@@ -1,5 +1,7 @@
 //! The bench: reads a script text and call rows from standard input, serves the calls on the ladder of four levels, and prints a table of
 //! the answers.
+#![tactic(auto)]
+
 ghost use Rattle.std.specs.Prelude.{◌≡◌, IfOk, string_bytes};
 ghost use Rattle.bench.specs.Printed.{printed};
 

@@ -2,6 +2,8 @@
 //!
 //! `docs/bench-rows.md` has the formats in words. `parts` takes an input apart, `calls` reads the call rows, and `table` makes the text that is
 //! put out. The definitions that the contracts cite are tried out on examples by `cases_come_out`.
+#![tactic(auto)]
+
 ghost use Rattle.console.specs.Cases.{Readable, Unreadable, ListsOfRows, Parted, PutOut, WholeTables};
 
 pub mod calls;

@@ -2,6 +2,8 @@
 //!
 //! The order of levels is lent to each call beside the host. Each call answers as the rules say, and leaves the tables as the rules say;
 //! `serve` runs a whole list of calls from new, and carries the promises over whole runs.
+#![tactic(auto)]
+
 mod arguments;
 mod calls;
 pub mod host;

@@ -1,4 +1,5 @@
 //! A line: a bounded container, over lent slots, for everything that waits or is kept in order. docs/lines.md tells of it.
+#![tactic(auto)]
 
 mod element;
 mod laws;

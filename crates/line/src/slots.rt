@@ -31,7 +31,7 @@ pub fn at_place<E: Copy>(slots: &[Option<E>], place: usize) -> Option<E>
 
 /// Finds the oldest element with the key, and answers its place and the element. The line stays as it is.
 pub fn look<E: Element + Copy>(slots: &[Option<E>], key: E::Key) -> Option<(usize, E)>
-    ensures found { result ≡ oldest (λ e. same (key_of e) key) (elements slots.now) }
+    ensures found { result ≡ oldest (λ e. E.same (E.key_of e) key) (elements slots.now) }
     ensures within { IfSome result (λ f. f.0 < length (elements slots.now)) }
     ensures holds { IfSome result (λ f. (d : E) → slice_index_or (elements slots.now) f.0 d ≡ f.1) }
 {

@@ -32,7 +32,7 @@ pub fn look_at<E: Element + Copy>(
     key: E::Key,
 ) -> Option<(usize, E)>
     requires { HasLevel room level table.now }
-    ensures found { result ≡ oldest (λ e. same (key_of e) key) (elements (part room level table.now)) }
+    ensures found { result ≡ oldest (λ e. E.same (E.key_of e) key) (elements (part room level table.now)) }
     ensures within { IfSome result (λ f. f.0 < length (elements (part room level table.now))) }
     ensures holds { IfSome result (λ f. (d : E) → slice_index_or (elements (part room level table.now)) f.0 d ≡ f.1) }
 {

@@ -1,4 +1,6 @@
 //! Orders of security levels: which level's data may flow to which, and at which level stands what was made from two.
+#![tactic(auto)]
+
 ghost use Rattle.std.specs.Prelude.{◌≡◌, ℕ, refl};
 ghost use Rattle.order.specs.Levels.{Levels, Laws};
 ghost use Rattle.order.specs.Supplied.{ladder, makers};
@@ -94,8 +96,8 @@ impl Order for Makers {
 ///
 /// It carries the theory of joins: in every order the join of two levels is their least bound, and it commutes, regroups, repeats and grows.
 pub fn join_within<O: Order>(order: &O, one: Level, other: Level, limit: Level) -> Option<Level>
-    ensures value { result ≡ within (levels order.now) one other limit }
-    ensures theory { Joins (levels order.now) }
+    ensures value { result ≡ within (O.levels order.now) one other limit }
+    ensures theory { Joins (O.levels order.now) }
 {
     let joined = order.join(one, other);
     if order.flows(joined, limit) {

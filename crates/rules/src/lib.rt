@@ -3,6 +3,8 @@
 //! The rules stand in `specs/`: what a wrapper admits, what each statement does, how a turn goes, and what each of the parties' five calls
 //! answers. What is proved of them stands on the contracts of the two functions below; the crate `host` serves the
 //! calls as these rules say.
+#![tactic(auto)]
+
 ghost use Rattle.rules.specs.Laws.{Secrecy, LabelsAlwaysFlow, LabelsAlwaysLevels, FuturesOwed, ValuesStay, RefusalsAlterNothing};
 ghost use Rattle.rules.specs.Cases.{Settled, ToldApartByNone, AllLoad, PremisesMet};
 

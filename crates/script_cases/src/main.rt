@@ -2,6 +2,8 @@
 //!
 //! The table comes from standard input. A case is a line `case NAME`, the lines of its text, and a line `end`; or a line `cut` in place of
 //! `end`, and then the text lacks its last line feed.
+#![tactic(auto)]
+
 mod table;
 mod verdict;
 

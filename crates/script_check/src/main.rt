@@ -1,4 +1,6 @@
 //! Checks one script text from standard input on the ladder of four levels: prints its classes, or its first fault and what would be right.
+#![tactic(auto)]
+
 mod advice;
 mod lines;
 mod table;

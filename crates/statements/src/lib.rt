@@ -3,6 +3,8 @@
 //! `variables` holds what a turn reads and assigns, and `frame` what stays the same through it. `giving` puts a result into its variable, with
 //! its label and its note. `plain`, `operating`, `branching`, `invoking`, `getting` and `creating` carry out the kinds of statements, each tied
 //! by an equation to the rules; `carrying` tells the kinds apart. `turn` takes a whole turn.
+#![tactic(auto)]
+
 pub mod branching;
 pub mod carrying;
 pub mod creating;

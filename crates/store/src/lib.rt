@@ -1,4 +1,6 @@
 //! The four tables of the host, in memory, and what is done to them.
+#![tactic(auto)]
+
 pub mod lines;
 pub mod numbered;
 mod places;

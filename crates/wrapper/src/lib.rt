@@ -2,6 +2,8 @@
 //!
 //! `classes` looks up what a program declares, `noting` files the notes of new marks, `making` makes objects, `admitting` judges calls, and
 //! `sending` puts an admitted call in line. Each function is tied by an equation to the rules.
+#![tactic(auto)]
+
 pub mod admitting;
 pub mod classes;
 pub mod making;

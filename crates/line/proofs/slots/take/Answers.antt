@@ -28,7 +28,7 @@ returns g c =
     let slots = c.args.slots.now in
     let i = c.args.place in
     let h : i < length slots = omega (arith, count_within slots) in
-    let up = moved_up slots i c.take-taken.new.self h c.rotate-left.new.self c.rotate-left.ensures.after in
+    let up = moved_up slots i c.take-taken.new.self h c.rotate_left.new.self c.rotate_left.ensures.after in
     let held = slot_holds slots i c.index-slots-place.result c.unwrap.result c.requires.within in
     record {
       taken = cc;

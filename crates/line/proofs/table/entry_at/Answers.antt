@@ -8,4 +8,4 @@ pub at-place-requires : goal.at-place-requires
 at-place-requires g c = packed_at c.args.room c.args.level c.args.table.now c.requires.packed c.requires.level
 
 pub returns : goal.returns
-returns g c = record { found = c.at-place.ensures; within = rw c.at-place.ensures (nth-within (elements (part c.args.room c.args.level c.args.table.now)) c.args.place) }
+returns g c = record { found = c.at_place.ensures; within = rw c.at_place.ensures (nth-within (elements (part c.args.room c.args.level c.args.table.now)) c.args.place) }
