@@ -2,23 +2,23 @@ use Rattle.std.proofs.Common.{◌<◌, length, is_some, ap, ◌∙◌, arith, ru
 use Rattle.line.proofs.Lines.{count_within, moved_up, slot_some, slot_holds, take-elements, take-compact}
 use Rattle.line.proofs.slots.take.Goals as goal
 
-pub offset-bounds-slots-place : goal.offset-bounds-slots-place
-offset-bounds-slots-place g c = search (rules, count_within)
+pub offset_bounds-slots-place : goal.offset_bounds-slots-place
+offset_bounds-slots-place g c = search (rules, count_within)
 
 pub bounds-slots-place : goal.bounds-slots-place
 bounds-slots-place g c = search (rules, count_within)
 
-pub offset-bounds-slots-place-2 : goal.offset-bounds-slots-place-2
-offset-bounds-slots-place-2 g c = search (rules, count_within)
+pub offset_bounds-slots-place-2 : goal.offset_bounds-slots-place-2
+offset_bounds-slots-place-2 g c = search (rules, count_within)
 
-pub slice-bounds-rotate-left-count : goal.slice-bounds-rotate-left-count
-slice-bounds-rotate-left-count g c = search (rules, count_within)
+pub slice_bounds-rotate_left-count : goal.slice_bounds-rotate_left-count
+slice_bounds-rotate_left-count g c = search (rules, count_within)
 
-pub slice-bounds-rotate-left-start : goal.slice-bounds-rotate-left-start
-slice-bounds-rotate-left-start g c = search (rules, count_within)
+pub slice_bounds-rotate_left-start : goal.slice_bounds-rotate_left-start
+slice_bounds-rotate_left-start g c = search (rules, count_within)
 
-pub rotate-left-requires : goal.rotate-left-requires
-rotate-left-requires g c = search (rules, count_within)
+pub rotate_left-requires : goal.rotate_left-requires
+rotate_left-requires g c = search (rules, count_within)
 
 pub unwrap-requires : goal.unwrap-requires
 unwrap-requires g c = ap is_some c.take-taken.ensures.value ∙ slot_some c.args.slots.now _ _ c.requires.within
