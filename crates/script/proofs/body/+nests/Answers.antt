@@ -26,4 +26,4 @@ loop-at-preserved-in-Branch t c =
     c.loop-at.invariant ∙ e ∙ rw (sym c.if-not-nests.ensures, sym c.if-not-nests-2.ensures)
 
 pub loop-at-preserved : goal.loop-at-preserved
-loop-at-preserved t c = c.loop-at.invariant ∙ plain_first c.args.body.now c.args.depth c.loop-at.at c.args.end _ refl c.in-default.not-Branch c.loop-at-test.true
+loop-at-preserved t c = c.loop-at.invariant ∙ plain_first c.args.body.now c.args.depth c.loop-at.at c.args.end _ refl c.in_default.not-Branch c.loop-at-test.true

@@ -5,17 +5,17 @@ use Rattle.script.proofs.Depth.{nests_four_deep}
 use Rattle.script.proofs.Wider.{formed_more}
 use Rattle.script.proofs.loading.load.Goals as goal
 
-pub returns-in-err-classes : goal.returns-in-err-classes
-returns-in-err-classes g c =
+pub returns-in_err-classes : goal.returns-in_err-classes
+returns-in_err-classes g c =
     let l = g.met.O.Order.lawful c.args.order.now in
     record { reads = search rules; exactly = reads_exactly _ l.few; once = one_text _; depth = nests_four_deep _ }
 
-pub invariant-of-result : goal.invariant-of-result
-invariant-of-result g c =
+pub invariant_of-result : goal.invariant_of-result
+invariant_of-result g c =
     let o = g.O.Order.levels c.args.order.now in
     let l = g.met.O.Order.lawful c.args.order.now in
-    let classes = classes_of (vec_items c.in-ok-classes.classes) in
-    (formed_more o.count 8 l.few classes (only o.count c.args.text.now classes c.in-ok-classes.ensures).1, tt)
+    let classes = classes_of (vec_items c.in_ok-classes.classes) in
+    record { formed = formed_more o.count 8 l.few classes (only o.count c.args.text.now classes c.in_ok-classes.ensures).1 }
 
 pub returns : goal.returns
 returns g c =
