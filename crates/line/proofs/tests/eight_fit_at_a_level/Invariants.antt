@@ -3,4 +3,4 @@ use Rattle.line.specs.Tables.{packed}
 use Rattle.line.proofs.tests.eight_fit_at_a_level.Given as goal
 
 abbrev pub invariant-loop-number : goal.invariant-loop-number
-invariant-loop-number l = (length l.table ≡ 16) × (packed 8 l.table ≡ true)
+invariant-loop-number g l = (length l.table ≡ 16) × (packed 8 l.table ≡ true)

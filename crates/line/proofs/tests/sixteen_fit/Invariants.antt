@@ -3,4 +3,4 @@ use Rattle.line.specs.Slots.{compact}
 use Rattle.line.proofs.tests.sixteen_fit.Given as goal
 
 abbrev pub invariant-loop-place : goal.invariant-loop-place
-invariant-loop-place l = (length l.slots ≡ 16) × (compact l.slots ≡ true)
+invariant-loop-place g l = (length l.slots ≡ 16) × (compact l.slots ≡ true)

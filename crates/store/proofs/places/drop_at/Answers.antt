@@ -5,9 +5,9 @@ use Rattle.store.proofs.places.drop_at.Goals as goal
 pub returns-in-Some : goal.returns-in-Some
 returns-in-Some g c =
     record {
-      elements = c.take-at.ensures.elements ∙ removed_same _ c.args.place;
-      others = c.take-at.ensures.others;
-      packed = c.take-at.ensures.packed;
+      elements = c.take_at.ensures.elements ∙ removed_same _ c.args.place;
+      others = c.take_at.ensures.others;
+      packed = c.take_at.ensures.packed;
     }
 
 pub returns-in-None : goal.returns-in-None

@@ -11,7 +11,7 @@ returns-in-Ok c =
     let xs = elements (part 16 c.args.level c.args.self.now.calls) in
     record {
       accepts = e.accepts ∙ as_many call_of 16 xs;
-      calls = lined call_of c.args.self.now.calls c.add-at.new.table 16 c.args.level _ (accepted call_of 16 xs _ c.args.call e.accepts e.cases.1) e.others;
+      calls = lined call_of c.args.self.now.calls c.add_at.new.table 16 c.args.level _ (accepted call_of 16 xs _ c.args.call e.accepts e.cases.1) e.others;
       same = record { objects = refl; futures = refl; notes = refl };
     }
 
@@ -22,7 +22,7 @@ returns-in-Err c =
     record {
       accepts = e.accepts ∙ as_many call_of 16 xs;
       calls =
-          lined call_of c.args.self.now.calls c.add-at.new.table 16 c.args.level _
+          lined call_of c.args.self.now.calls c.add_at.new.table 16 c.args.level _
           (declined call_of 16 xs _ c.args.call e.accepts (ap (λ t. elements (part 16 c.args.level t)) e.cases.1)) e.others;
       same = record { objects = refl; futures = refl; notes = refl };
     }

@@ -11,6 +11,6 @@ returns-in-Ok c =
     let xs = elements (part 8 c.args.level c.args.self.now.objects) in
     record {
       accepts = e.accepts ∙ as_many object_of 8 xs;
-      objects = lined object_of c.args.self.now.objects c.add-at.new.table 8 c.args.level _ (accepted object_of 8 xs _ c.args.object e.accepts e.cases.1) e.others;
+      objects = lined object_of c.args.self.now.objects c.add_at.new.table 8 c.args.level _ (accepted object_of 8 xs _ c.args.object e.accepts e.cases.1) e.others;
       same = record { futures = refl; calls = refl; notes = refl };
     }

@@ -6,6 +6,6 @@ use Rattle.store.proofs.tables.Tables.drop_call.Goals as goal
 pub returns : goal.returns
 returns c =
     record {
-      calls = lined call_of c.args.self.now.calls c.drop-at.new.table 16 c.args.level _ (ap (map call_of) c.drop-at.ensures.elements ∙ map-without call_of _ c.args.place) c.drop-at.ensures.others;
+      calls = lined call_of c.args.self.now.calls c.drop_at.new.table 16 c.args.level _ (ap (map call_of) c.drop_at.ensures.elements ∙ map-without call_of _ c.args.place) c.drop_at.ensures.others;
       same = record { objects = refl; futures = refl; notes = refl };
     }

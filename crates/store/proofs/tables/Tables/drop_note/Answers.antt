@@ -5,6 +5,6 @@ use Rattle.store.proofs.tables.Tables.drop_note.Goals as goal
 pub returns : goal.returns
 returns c =
     record {
-      notes = lined_same c.args.self.now.notes c.drop-at.new.table 16 c.args.level _ c.drop-at.ensures.elements c.drop-at.ensures.others;
+      notes = lined_same c.args.self.now.notes c.drop_at.new.table 16 c.args.level _ c.drop_at.ensures.elements c.drop_at.ensures.others;
       same = record { objects = refl; futures = refl; calls = refl };
     }

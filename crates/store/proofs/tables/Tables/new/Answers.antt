@@ -5,8 +5,14 @@ use Rattle.rules.specs.Tables.{object_of, call_of}
 use Rattle.store.proofs.Lining.{new-elements}
 use Rattle.store.proofs.tables.Tables.new.Goals as goal
 
-pub invariant-of-result : goal.invariant-of-result
-invariant-of-result c = (packed-free 8 _ refl, (packed-free 32 _ refl, (packed-free 16 _ refl, (packed-free 16 _ refl, tt))))
+pub invariant_of-result : goal.invariant_of-result
+invariant_of-result c =
+    record {
+      objects_packed = packed-free 8 _ refl;
+      futures_packed = packed-free 32 _ refl;
+      calls_packed = packed-free 16 _ refl;
+      notes_packed = packed-free 16 _ refl;
+    }
 
 pub returns : goal.returns
 returns c =

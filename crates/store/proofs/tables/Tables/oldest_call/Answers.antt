@@ -7,4 +7,4 @@ use Rattle.store.proofs.Lining.{looked}
 use Rattle.store.proofs.tables.Tables.oldest_call.Goals as goal
 
 pub returns : goal.returns
-returns c = ap (option_map found_call) c.look-at.ensures.found ∙ looked call_of (is_for c.args.receiver) _
+returns c = ap (option_map found_call) c.look_at.ensures.found ∙ looked call_of (is_for c.args.receiver) _

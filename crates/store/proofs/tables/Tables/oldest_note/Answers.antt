@@ -6,4 +6,4 @@ use Rattle.store.proofs.Lining.{looked_same}
 use Rattle.store.proofs.tables.Tables.oldest_note.Goals as goal
 
 pub returns : goal.returns
-returns c = ap (option_map found_note) c.look-at.ensures.found ∙ looked_same (is_of c.args.class) _
+returns c = ap (option_map found_note) c.look_at.ensures.found ∙ looked_same (is_of c.args.class) _

@@ -7,6 +7,6 @@ use Rattle.store.proofs.tables.Tables.put_call.Goals as goal
 pub returns : goal.returns
 returns c =
     record {
-      calls = lined call_of c.args.self.now.calls c.put-at.new.table 16 c.args.level _ (ap (map call_of) c.put-at.ensures.elements ∙ map-set call_of _ c.args.place c.args.call) c.put-at.ensures.others;
+      calls = lined call_of c.args.self.now.calls c.put_at.new.table 16 c.args.level _ (ap (map call_of) c.put_at.ensures.elements ∙ map-set call_of _ c.args.place c.args.call) c.put_at.ensures.others;
       same = record { objects = refl; futures = refl; notes = refl };
     }

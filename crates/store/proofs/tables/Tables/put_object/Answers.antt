@@ -8,7 +8,7 @@ pub returns : goal.returns
 returns c =
     record {
       objects =
-          lined object_of c.args.self.now.objects c.put-at.new.table 8 c.args.name.home _
-          (ap (map object_of) c.put-at.ensures.elements ∙ map-set object_of _ c.args.name.number c.args.object) c.put-at.ensures.others;
+          lined object_of c.args.self.now.objects c.put_at.new.table 8 c.args.name.home _
+          (ap (map object_of) c.put_at.ensures.elements ∙ map-set object_of _ c.args.name.number c.args.object) c.put_at.ensures.others;
       same = record { futures = refl; calls = refl; notes = refl };
     }

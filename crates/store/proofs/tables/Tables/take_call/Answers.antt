@@ -5,8 +5,8 @@ use Rattle.rules.specs.Tables.{call_of}
 use Rattle.store.proofs.Lining.{lined, within, map_removed}
 use Rattle.store.proofs.tables.Tables.take_call.Goals as goal
 
-pub take-at-requires : goal.take-at-requires
-take-at-requires c =
+pub take_at-requires : goal.take_at-requires
+take_at-requires c =
     record {
       level = search rules;
       within = within call_of c.args.place (elements (part 16 c.args.level c.args.self.now.calls)) c.requires.within;
@@ -16,6 +16,6 @@ take-at-requires c =
 pub returns : goal.returns
 returns c =
     record {
-      calls = lined call_of c.args.self.now.calls c.take-at.new.table 16 c.args.level _ (ap (map call_of) c.take-at.ensures.elements ∙ map_removed call_of _ c.args.place) c.take-at.ensures.others;
+      calls = lined call_of c.args.self.now.calls c.take_at.new.table 16 c.args.level _ (ap (map call_of) c.take_at.ensures.elements ∙ map_removed call_of _ c.args.place) c.take_at.ensures.others;
       same = record { objects = refl; futures = refl; notes = refl };
     }
