@@ -1,5 +1,5 @@
 -- What follows from the laws of the joins of every order.
-use Rattle.std.proofs.Common.{◌≡◌, ℕ, ◌<◌, true, ◌↔◌, arith}
+use Rattle.std.proofs.Common.{◌≡◌, ℕ, ◌<◌, true, ◌↔◌}
 use Rattle.order.specs.Levels.{Levels, Laws}
 use Rattle.order.specs.Joins.{Joins}
 

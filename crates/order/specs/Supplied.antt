@@ -1,5 +1,5 @@
 -- The orders that the crate supplies.
-use Rattle.std.specs.Prelude.{ℕ, max, bit_and, bit_or, nat_eq, nat_le}
+use Rattle.std.specs.Prelude.{max, bit_and, bit_or, nat_eq, nat_le}
 use Rattle.order.specs.Levels.{Levels, levels_of}
 
 -- Four levels, one above the other: a flows to b where a ≤ b, and the join is the larger.

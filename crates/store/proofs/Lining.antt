@@ -1,15 +1,15 @@
 -- The lines of a table, as the rules see them.
-use Rattle.std.proofs.Common.{◌≡◌, ℕ, zero, suc, ◌+◌, ◌-◌, ◌*◌, ◌<◌, ◌≤◌, Bool, true, false, cond, eqb, ltb, List, [], ◌∷◌, ◌++◌, map, length, get_or, take, drop, set, replicate, Some, None, Option, sym, refl, ap, ◌∙◌, inl, inr, add-zero, zero-add, arith}
+use Rattle.std.proofs.Common.{◌≡◌, ℕ, zero, suc, ◌+◌, ◌-◌, ◌*◌, ◌<◌, ◌≤◌, Bool, true, false, eqb, ltb, List, [], ◌∷◌, ◌++◌, map, length, get_or, take, drop, set, Some, None, Option, sym, refl, ap, ◌∙◌, inl, inr, add-zero, zero-add, arith}
 use mathlib.Core.Path.{fun_ext}
 use Rattle.std.specs.Option.{option_map}
 use Rattle.std.specs.List.{remove}
 use Rattle.std.proofs.lemmas.List.{length-map, map_push, drop_all}
-use Rattle.std.proofs.lemmas.Bool.{cases_eq, cases_Bool, cond-true, cond-false, cond_both, eq-eqb, ne_eqb}
+use Rattle.std.proofs.lemmas.Bool.{cases_eq, cases_Bool, cond-true, cond-false, eq-eqb, ne_eqb}
 use Rattle.line.specs.Slots.{elements, free, nth as nth_slot, oldest_from, oldest as oldest_slot}
 use Rattle.line.specs.Tables.{part, OthersStay}
 use Rattle.line.proofs.Lines.{free-elements}
 use Rattle.line.proofs.Parts.{free-take, free-drop}
-use Rattle.rules.specs.Lists.{update, snoc, added, Placed, later, oldest, without, nth}
+use Rattle.rules.specs.Lists.{update, added, Placed, later, oldest, without, nth}
 
 -- a line is what it became, and the others are as they were
 pub lined : {X Y : Type 0} (f : X → Y) (before after : List (Option X)) (room level : ℕ) (ys : List Y) → map f (elements (part room level after)) ≡ ys → OthersStay room level before after

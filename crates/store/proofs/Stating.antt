@@ -1,8 +1,8 @@
 -- The state that tables hold, put together from the four tables.
-use Rattle.std.proofs.Common.{◌≡◌, ℕ, List, map, ap}
+use Rattle.std.proofs.Common.{◌≡◌, ℕ, List, map}
 use Rattle.rules.specs.declared.tables.Note.{Note}
 use Rattle.rules.specs.declared.tables.Future.{Future}
-use Rattle.rules.specs.Tables.{Object, object_of, Call, call_of, State}
+use Rattle.rules.specs.Tables.{Object, object_of, Call, call_of}
 use Rattle.line.specs.Slots.{elements}
 use Rattle.line.specs.Tables.{part}
 use Rattle.store.specs.declared.tables.Tables.{Tables}

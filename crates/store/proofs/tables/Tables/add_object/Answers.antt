@@ -1,4 +1,4 @@
-use Rattle.std.proofs.Common.{refl, ap, ◌∙◌}
+use Rattle.std.proofs.Common.{refl, ◌∙◌}
 use Rattle.line.specs.Slots.{elements}
 use Rattle.line.specs.Tables.{part}
 use Rattle.rules.specs.Tables.{object_of}

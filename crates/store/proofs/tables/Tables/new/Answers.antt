@@ -1,4 +1,4 @@
-use Rattle.std.proofs.Common.{◌≡◌, ℕ, List, [], map, replicate, None, Option, refl, ap}
+use Rattle.std.proofs.Common.{map, replicate, None, refl, ap}
 use mathlib.Core.Path.{fun_ext}
 use Rattle.line.proofs.Parts.{packed-free}
 use Rattle.rules.specs.Tables.{object_of, call_of}

@@ -1,4 +1,4 @@
-use Rattle.std.proofs.Common.{sym, refl, arith}
+use Rattle.std.proofs.Common.{refl, arith}
 use Rattle.store.specs.States.{futures_of}
 use Rattle.store.proofs.Lining.{set_past, updated_same}
 use Rattle.store.proofs.tables.Tables.resolve.Goals as goal

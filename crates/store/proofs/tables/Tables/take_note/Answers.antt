@@ -1,4 +1,4 @@
-use Rattle.std.proofs.Common.{refl, ap, ◌∙◌}
+use Rattle.std.proofs.Common.{refl, ◌∙◌}
 use Rattle.store.proofs.Lining.{lined_same, removed_same}
 use Rattle.store.proofs.tables.Tables.take_note.Goals as goal
 
