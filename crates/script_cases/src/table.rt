@@ -79,10 +79,10 @@ fn cut_line(bytes: &[u8]) -> Cut<'_>
 fn read_ending(line: &[u8]) -> Option<Ending>
     ensures { result ≡ ending_of line.now }
 {
-    if line == b"end" {
+    if line == b"end".as_slice() {
         return Some(Ending::Whole);
     }
-    if line == b"cut" {
+    if line == b"cut".as_slice() {
         return Some(Ending::Short);
     }
     None

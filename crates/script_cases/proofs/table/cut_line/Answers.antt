@@ -6,8 +6,8 @@ use Rattle.script_cases.proofs.table.cut_line.Goals as goal
 pub returns-then-length-bytes : goal.returns-then-length-bytes
 returns-then-length-bytes c =
     let bs = c.args.bytes.now in
-    let n = c.line-length-length.result in
-    let is = c.line-length-length.ensures.value in
+    let n = c.line_length-length.result in
+    let is = c.line_length-length.ensures.value in
     let all = c.if-length-bytes.true in
     record {
       front = sym (take_all (to_feed bs) bs (omega (arith, is, all)));
@@ -18,8 +18,8 @@ returns-then-length-bytes c =
 pub returns : goal.returns
 returns c =
     let bs = c.args.bytes.now in
-    let n = c.line-length-length.result in
-    let is = c.line-length-length.ensures.value in
+    let n = c.line_length-length.result in
+    let is = c.line_length-length.ensures.value in
     let plain : n - 0 ≡ to_feed bs = omega (arith, is) in
     record {
       front = ap (λ m. take m bs) plain;

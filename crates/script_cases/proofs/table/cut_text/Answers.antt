@@ -9,7 +9,7 @@ returns-in-Some c =
     let lines = c.args.lines.now in
     let n = c.loop-length.length in
     let same = take_rest lines n in
-    let cut = c.cut-line-line.ensures in
+    let cut = c.cut_line-line.ensures in
     let is : ending_of (line_of (drop n lines)) ≡ Some c.in-Some.ending = ap (λ l. ending_of (line_of l)) (sym same) ∙ ap ending_of (sym cut.front) ∙ sym c.in-Some.ensures in
     let rest = cut.rest ∙ ap after_line same in
     let size : text_length c.in-Some.ending n ≡ c.text_length.result - 0 = omega (arith, c.text_length.ensures.value) in
@@ -23,7 +23,7 @@ loop-length-preserved c =
     let lines = c.args.lines.now in
     let n = c.loop-length.length in
     let same = take_rest lines n in
-    let cut = c.cut-line-line.ensures in
+    let cut = c.cut_line-line.ensures in
     let none : ending_of (line_of (drop n lines)) ≡ None = ap (λ l. ending_of (line_of l)) (sym same) ∙ ap ending_of (sym cut.front) ∙ sym c.in-None.ensures in
     (omega arith, passed_more lines n _ c.loop-length.invariant.0 c.loop-length.invariant.1 (cut.rest ∙ ap after_line same) none)
 

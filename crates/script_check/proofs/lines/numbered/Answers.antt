@@ -3,4 +3,4 @@ use Rattle.script_check.proofs.Cutting.{line_step}
 use Rattle.script_check.proofs.lines.numbered.Goals as goal
 
 pub loop-passed-preserved : goal.loop-passed-preserved
-loop-passed-preserved c = c.loop-passed.invariant ∙ line_step c.args.number c.loop-passed.-passed _ _ c.loop-passed-test.true c.after-line-rest.ensures
+loop-passed-preserved c = c.loop-passed.invariant ∙ line_step c.args.number c.loop-passed._passed _ _ c.loop-passed-test.true c.after_line-rest.ensures
