@@ -1,6 +1,6 @@
 -- A statement of a body stands in at most four branches.
 use Rattle.std.proofs.Common.{◌≡◌, ℕ, zero, suc, ◌+◌, ◌-◌, ◌<◌, ◌≤◌, Bool, true, false, cond, ◌&&◌, ltb, leb, ◌⊎◌, List, [], ◌∷◌, length, get_or, take, Ok, sym, refl, ap, ◌∙◌, subst, inl, inr, add-one, arith}
-use Rattle.std.specs.List.{AllByRecursion as All}
+use Rattle.std.specs.List.{AllByRecursion}
 use Rattle.std.proofs.lemmas.Bool.{cases_lt, and_parts, leb-true, ltb-true, le-ltb, lt-ltb, cond-true, cond-false}
 use Rattle.std.proofs.lemmas.List.{get_or-take, length-take-le}
 use Rattle.script.specs.declared.class.Statement.{Statement}
@@ -137,11 +137,11 @@ method_deep levels fields m h at lt =
     let c = and_parts (every (in_range levels fields) m.statements) _ b.1 in
     body_depth m.statements at c.1 lt
 
-all_of : {X : Type 0} (test : X → Bool) (P : X → Type 0) (xs : List X) → ((x : X) → test x ≡ true → P x) → every test xs ≡ true → All P xs
+all_of : {X : Type 0} (test : X → Bool) (P : X → Type 0) (xs : List X) → ((x : X) → test x ≡ true → P x) → every test xs ≡ true → AllByRecursion P xs
 all_of test P [] f h = tt
 all_of test P (x ∷ xs) f h = let p = and_parts (test x) (every test xs) h in (f x p.0, all_of test P xs f p.1)
 
-class_deep : (levels : ℕ) (c : Class) → class_formed levels c ≡ true → All (λ (m : Method). (at : ℕ) → at < length m.statements → depth_at m.statements at ≤ 4) c.methods
+class_deep : (levels : ℕ) (c : Class) → class_formed levels c ≡ true → AllByRecursion (λ (m : Method). (at : ℕ) → at < length m.statements → depth_at m.statements at ≤ 4) c.methods
 class_deep levels c h =
     let a = and_parts (leb (length c.fields) 8) _ h in
     let b = and_parts (leb (length c.methods) 4) _ a.1 in

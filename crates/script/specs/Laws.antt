@@ -1,6 +1,6 @@
 -- What loading promises of texts and programs, in words that do not mention the reading's steps.
 use Rattle.std.specs.Prelude.{◌≡◌, ℕ, ◌<◌, ◌≤◌, true, ◌↔◌, List, length, Ok}
-use Rattle.std.specs.List.{AllByRecursion as All}
+use Rattle.std.specs.List.{AllByRecursion}
 use Rattle.script.specs.Classes.{Method, Class, Program}
 use Rattle.script.specs.Bodies.{depth_at}
 use Rattle.script.specs.Layout.{text_of, rows_of, well_formed}
@@ -16,7 +16,7 @@ OneText levels = (one other : List ℕ) (program : Program) → reading levels o
 
 -- every statement of a program stands in at most four branches
 abbrev pub FourDeep : Program → Type 0
-FourDeep program = All (λ (c : Class). All (λ (m : Method). (at : ℕ) → at < length m.statements → depth_at m.statements at ≤ 4) c.methods) program
+FourDeep program = AllByRecursion (λ (c : Class). AllByRecursion (λ (m : Method). (at : ℕ) → at < length m.statements → depth_at m.statements at ≤ 4) c.methods) program
 
 -- and so does every statement of a text that is read as a program
 abbrev pub NestsFourDeep : ℕ → Type 0

@@ -6,18 +6,18 @@ use Rattle.wrapper.specs.Floors.{writes_in}
 use Rattle.wrapper.proofs.Every.{fails_at, passes_at, passes_all}
 use Rattle.wrapper.proofs.admitting.may_write_all.Goals as goal
 
-pub returns-then-not-may-write : goal.returns-then-not-may-write
-returns-then-not-may-write g c =
+pub returns-then-not-may_write : goal.returns-then-not-may_write
+returns-then-not-may_write g c =
     let may = λ (s : Statement). writes_in (g.O.Order.levels c.args.order.now) c.args.fields.now c.args.level c.args.home (target s) in
-    let told = ap (writes_in (g.O.Order.levels c.args.order.now) c.args.fields.now c.args.level c.args.home) (sym c.assigned-by.ensures)
-    ∙ (sym c.may-write.ensures ∙ c.if-not-may-write.true) in
+    let told = ap (writes_in (g.O.Order.levels c.args.order.now) c.args.fields.now c.args.level c.args.home) (sym c.assigned_by.ensures)
+    ∙ (sym c.may_write.ensures ∙ c.if-not-may_write.true) in
     sym (fails_at may c.args.statements.now c.loop-statement.statement-index idle c.loop-statement-test.true told) ∙ c.loop-statement.invariant
 
 pub loop-statement-preserved : goal.loop-statement-preserved
 loop-statement-preserved g c =
     let may = λ (s : Statement). writes_in (g.O.Order.levels c.args.order.now) c.args.fields.now c.args.level c.args.home (target s) in
-    let told = ap (writes_in (g.O.Order.levels c.args.order.now) c.args.fields.now c.args.level c.args.home) (sym c.assigned-by.ensures)
-    ∙ (sym c.may-write.ensures ∙ c.if-not-may-write.false) in
+    let told = ap (writes_in (g.O.Order.levels c.args.order.now) c.args.fields.now c.args.level c.args.home) (sym c.assigned_by.ensures)
+    ∙ (sym c.may_write.ensures ∙ c.if-not-may_write.false) in
     sym (passes_at may c.args.statements.now c.loop-statement.statement-index idle c.loop-statement-test.true told) ∙ c.loop-statement.invariant
 
 pub returns : goal.returns

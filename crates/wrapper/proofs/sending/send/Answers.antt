@@ -12,11 +12,11 @@ pub returns : goal.returns
 returns g c =
     let t = c.args.tables.now in
     let t₁ = c.masked-locals.new.tables in
-    let t₂ = c.open-future-owed.new.tables in
-    let t₃ = c.add-call.new.self in
+    let t₂ = c.open_future-owed.new.tables in
+    let t₃ = c.add_call.new.self in
     let m = c.masked-locals.ensures in
-    let f = c.open-future-owed.ensures in
-    let a = c.add-call.ensures in
+    let f = c.open_future-owed.ensures in
+    let a = c.add_call.ensures in
     let s = c.args.sending.now in
     let futures = futures_stay t t₁ m.same.futures in
     let calls = calls_stay t t₂ (f.same.calls ∙ m.same.calls) in
@@ -28,6 +28,6 @@ returns g c =
           (objects_stay t t₃ (a.same.objects ∙ (f.same.objects ∙ m.same.objects)))
           (futures_stay t₂ t₃ a.same.futures ∙ f.futures ∙ ap (λ fs. with_future fs s.level s.answered) futures)
           (a.calls ∙ line_more (calls_of t) (calls_of t₂) s.level _ _ calls (place-free (state_of t) s.level s.answered c.requires.room)
-          (call_new (state_of t) s.level s.receiver s.method _ c.masked-locals.result s.answered c.open-future-owed.result m.locals owed))
+          (call_new (state_of t) s.level s.receiver s.method _ c.masked-locals.result s.answered c.open_future-owed.result m.locals owed))
           (notes_stay t₁ t₃ (a.same.notes ∙ f.same.notes) ∙ m.notes);
     }
