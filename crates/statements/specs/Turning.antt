@@ -1,6 +1,5 @@
 -- What a turn holds in memory, as the rules see it.
 use Rattle.std.specs.Prelude.{◌≡◌, ℕ, ◌<◌, ◌≤◌, true, length, Some, None, Option, slice_index_or}
-use Rattle.std.specs.Borrow.{Bor}
 use Rattle.script.specs.declared.class.Variable.{Variable}
 use Rattle.script.specs.declared.class.Variable.TheVariants.{Local, Field}
 use Rattle.script.specs.Classes.{Program, classes_of}
@@ -18,9 +17,9 @@ use Rattle.statements.specs.declared.variables.Variables.{Variables}
 abbrev pub running_of : Variables → State → Running
 running_of v σ = record { locals = λ i. slice_index_or v.locals i blank; fields = λ i. slice_index_or v.fields i blank; tables = σ }
 
--- the same, of variables and tables that are lent
-abbrev pub working : Bor Variables → Bor Tables → Running
-working v t = running_of v.now (state_of t.now)
+-- the same, over what tables in memory hold
+abbrev pub working : Variables → Tables → Running
+working v t = running_of v (state_of t)
 
 -- the program that a turn is of
 abbrev pub program_of : Frame → Program

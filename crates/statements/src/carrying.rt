@@ -29,7 +29,7 @@ impl<'a> Frame<'a> {
         requires within { at < length self.now.body.now }
         requires fits { Fits (target statement) }
         requires kind { works_out statement ≡ true }
-        ensures { working variables.exit tables.exit ≡ does_change (O.Order.levels order.now) (program_of self.now) (scene_of_frame self.now) statement at context (working variables.entry tables.entry) }
+        ensures { working variables.new tables.new ≡ does_change (O.Order.levels order.now) (program_of self.now) (scene_of_frame self.now) statement at context (working variables.old tables.old) }
     {
         match statement {
             Statement::Constant { to, number } => {
@@ -67,8 +67,8 @@ impl<'a> Frame<'a> {
         requires framed { Framed self.now }
         requires level { context < (O.Order.levels order.now).count }
         requires within { at + 1 + branch_rows (slice_index_or self.now.body.now at idle) ≤ length self.now.body.now }
-        ensures next { result ≡ does_lead (O.Order.levels order.now) (program_of self.now) (scene_of_frame self.now) (slice_index_or self.now.body.now at idle) at context (working variables.entry tables.entry) }
-        ensures does { working variables.exit tables.exit ≡ does_change (O.Order.levels order.now) (program_of self.now) (scene_of_frame self.now) (slice_index_or self.now.body.now at idle) at context (working variables.entry tables.entry) }
+        ensures next { result ≡ does_lead (O.Order.levels order.now) (program_of self.now) (scene_of_frame self.now) (slice_index_or self.now.body.now at idle) at context (working variables.old tables.old) }
+        ensures does { working variables.new tables.new ≡ does_change (O.Order.levels order.now) (program_of self.now) (scene_of_frame self.now) (slice_index_or self.now.body.now at idle) at context (working variables.old tables.old) }
     {
         let statement = self.body[at];
         match statement {

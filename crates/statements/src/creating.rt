@@ -52,7 +52,7 @@ impl<'a> Frame<'a> {
         requires level { context < (O.Order.levels order.now).count }
         requires within { at < length self.now.body.now }
         requires fits { number_of to < 8 }
-        ensures { working variables.exit tables.exit ≡ created (O.Order.levels order.now) (program_of self.now) (scene_of_frame self.now) context at to class level (working variables.entry tables.entry) (unmakeable (O.Order.levels order.now) (program_of self.now) (state_of tables.old) context class level) }
+        ensures { working variables.new tables.new ≡ created (O.Order.levels order.now) (program_of self.now) (scene_of_frame self.now) context at to class level (working variables.old tables.old) (unmakeable (O.Order.levels order.now) (program_of self.now) (state_of tables.old) context class level) }
     {
         match make_object(order, self.classes, tables, context, class, level) {
             Ok(name) => {

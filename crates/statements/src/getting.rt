@@ -95,8 +95,8 @@ impl<'a> Frame<'a> {
         requires framed { Framed self.now }
         requires within { at < length self.now.body.now }
         requires fits { number_of to < 8 }
-        ensures next { result ≡ waiting (fetched (O.Order.levels order.now) (program_of self.now) (scene_of_frame self.now) (state_of tables.old) context (read (working variables.entry tables.entry) future).value (read (working variables.entry tables.entry) future).label) }
-        ensures does { working variables.exit tables.exit ≡ taken (O.Order.levels order.now) (program_of self.now) (scene_of_frame self.now) context at to (working variables.entry tables.entry) (fetched (O.Order.levels order.now) (program_of self.now) (scene_of_frame self.now) (state_of tables.old) context (read (working variables.entry tables.entry) future).value (read (working variables.entry tables.entry) future).label) }
+        ensures next { result ≡ waiting (fetched (O.Order.levels order.now) (program_of self.now) (scene_of_frame self.now) (state_of tables.old) context (read (working variables.old tables.old) future).value (read (working variables.old tables.old) future).label) }
+        ensures does { working variables.new tables.new ≡ taken (O.Order.levels order.now) (program_of self.now) (scene_of_frame self.now) context at to (working variables.old tables.old) (fetched (O.Order.levels order.now) (program_of self.now) (scene_of_frame self.now) (state_of tables.old) context (read (working variables.old tables.old) future).value (read (working variables.old tables.old) future).label) }
     {
         match self.fetch(order, tables, context, variables.read(future)) {
             Some(made) => {

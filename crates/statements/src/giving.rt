@@ -19,7 +19,7 @@ impl<'a> Frame<'a> {
     pub fn place(&self, at: usize) -> Place
         requires framed { Framed self.now }
         requires within { at < length self.now.body.now }
-        ensures* { λ r. ⌜ place_of r ≡ record { class = self.now.class; method = self.now.method; statement = at + 1 } ⌝ }
+        ensures { place_of result ≡ record { class = self.now.class; method = self.now.method; statement = at + 1 } }
     {
         Place {
             class: self.class,
@@ -31,7 +31,7 @@ impl<'a> Frame<'a> {
     /// The label of a result in a variable: its own joined with the context and, in a field, with the floor.
     fn settled<O: Order>(&self, order: &O, context: Level, to: Variable, label: Level) -> Level
         requires { Framed self.now }
-        ensures* { λ r. ⌜ r ≡ settled (O.Order.levels order.now) (program_of self.now) (scene_of_frame self.now) context to label ⌝ }
+        ensures { result ≡ settled (O.Order.levels order.now) (program_of self.now) (scene_of_frame self.now) context to label }
     {
         let joined = order.join(label, context);
         match to {
@@ -51,7 +51,7 @@ impl<'a> Frame<'a> {
     )
         requires framed { Framed self.now }
         requires fits { Fits to }
-        ensures* { λ _. ⌜ ((σ : State) → running_of variables.new σ ≡ put (O.Order.levels order.now) (program_of self.now) (scene_of_frame self.now) context to value (running_of variables.old σ)) ⌝ }
+        ensures { (σ : State) → running_of variables.new σ ≡ put (O.Order.levels order.now) (program_of self.now) (scene_of_frame self.now) context to value (running_of variables.old σ) }
     {
         if let Some(to) = to {
             let label = self.settled(order, context, to, value.label);
@@ -79,7 +79,7 @@ impl<'a> Frame<'a> {
         requires framed { Framed self.now }
         requires within { at < length self.now.body.now }
         requires fits { Fits to }
-        ensures* { λ _. ⌜ working variables.exit tables.exit ≡ with_result (O.Order.levels order.now) (program_of self.now) (scene_of_frame self.now) context at to (made_of made) (working variables.entry tables.entry) ⌝ }
+        ensures { working variables.new tables.new ≡ with_result (O.Order.levels order.now) (program_of self.now) (scene_of_frame self.now) context at to (made_of made) (working variables.old tables.old) }
     {
         let value = settle(order, tables, context, self.place(at), made);
         self.put(order, variables, context, to, value);

@@ -97,7 +97,7 @@ impl<'a> Frame<'a> {
         requires level { call.now.level < 8 }
         requires few { length arguments.now ≤ 4 }
         requires sender { SentBy self.now at to call.now }
-        ensures { working variables.exit tables.exit ≡ asked (O.Order.levels order.now) (program_of self.now) (scene_of_frame self.now) call.now.context at to call.now.level call.now.receiver call.now.method arguments.now (working variables.entry tables.entry) (verdict (O.Order.levels order.now) (program_of self.now) (state_of tables.old) call.now.level call.now.receiver (Some call.now.method) (length arguments.now) (given_to to)) }
+        ensures { working variables.new tables.new ≡ asked (O.Order.levels order.now) (program_of self.now) (scene_of_frame self.now) call.now.context at to call.now.level call.now.receiver call.now.method arguments.now (working variables.old tables.old) (verdict (O.Order.levels order.now) (program_of self.now) (state_of tables.old) call.now.level call.now.receiver (Some call.now.method) (length arguments.now) (given_to to)) }
     {
         let asked = Asked {
             level: call.level,
@@ -143,7 +143,7 @@ impl<'a> Frame<'a> {
         requires framed { Framed self.now }
         requires within { at < length self.now.body.now }
         requires fits { Fits to }
-        ensures { working variables.exit tables.exit ≡ invoked (O.Order.levels order.now) (program_of self.now) (scene_of_frame self.now) context at to (read (working variables.entry tables.entry) receiver).value (read (working variables.entry tables.entry) receiver).label method (passed (working variables.entry tables.entry) arguments) (working variables.entry tables.entry) }
+        ensures { working variables.new tables.new ≡ invoked (O.Order.levels order.now) (program_of self.now) (scene_of_frame self.now) context at to (read (working variables.old tables.old) receiver).value (read (working variables.old tables.old) receiver).label method (passed (working variables.old tables.old) arguments) (working variables.old tables.old) }
     {
         let passed = variables.passed(arguments);
         let found = variables.read(receiver);

@@ -29,7 +29,7 @@ pub enum Operation {
 impl Operation {
     /// What comes out for two numbers; it clamps to the ends of 32 bits, signed.
     pub fn on_numbers(self, left: i32, right: i32) -> i32
-        ensures* { λ r. ⌜ r ≡ on_numbers self left right ⌝ }
+        ensures { result ≡ on_numbers self left right }
     {
         match self {
             Operation::Sum => left.saturating_add(right),
@@ -40,7 +40,7 @@ impl Operation {
 
     /// What comes out for two values with their labels: both must be numbers, and the label is both joined.
     pub fn on_values<O: Order>(self, order: &O, left: Labelled, right: Labelled) -> Made
-        ensures* { λ r. ⌜ made_of r ≡ worked (on_numbers self) left.value right.value ((O.Order.levels order.now).join left.label right.label) ⌝ }
+        ensures { made_of result ≡ worked (on_numbers self) left.value right.value ((O.Order.levels order.now).join left.label right.label) }
     {
         let label = order.join(left.label, right.label);
         match (left.value, right.value) {
@@ -74,7 +74,7 @@ impl<'a> Frame<'a> {
         requires framed { Framed self.now }
         requires within { at < length self.now.body.now }
         requires fits { number_of to < 8 }
-        ensures* { λ _. ⌜ working variables.exit tables.exit ≡ with_result (O.Order.levels order.now) (program_of self.now) (scene_of_frame self.now) context at (Some to) (operated (O.Order.levels order.now) (program_of self.now) (scene_of_frame self.now) (on_numbers operation) (read (working variables.entry tables.entry) left) (read (working variables.entry tables.entry) right)) (working variables.entry tables.entry) ⌝ }
+        ensures { working variables.new tables.new ≡ with_result (O.Order.levels order.now) (program_of self.now) (scene_of_frame self.now) context at (Some to) (operated (O.Order.levels order.now) (program_of self.now) (scene_of_frame self.now) (on_numbers operation) (read (working variables.old tables.old) left) (read (working variables.old tables.old) right)) (working variables.old tables.old) }
     {
         let made = operation.on_values(order, variables.read(left), variables.read(right));
         self.give(order, variables, tables, at, context, Some(to), made);

@@ -28,7 +28,7 @@ impl<'a> Frame<'a> {
         requires framed { Framed self.now }
         requires within { at < length self.now.body.now }
         requires fits { number_of to < 8 }
-        ensures* { λ _. ⌜ working variables.exit tables.exit ≡ with_result (O.Order.levels order.now) (program_of self.now) (scene_of_frame self.now) context at (Some to) (plain (labelled (Number number) 0)) (working variables.entry tables.entry) ⌝ }
+        ensures { working variables.new tables.new ≡ with_result (O.Order.levels order.now) (program_of self.now) (scene_of_frame self.now) context at (Some to) (plain (labelled (Number number) 0)) (working variables.old tables.old) }
     {
         let made = Made::Plain(Labelled {
             value: Value::Number(number),
@@ -50,7 +50,7 @@ impl<'a> Frame<'a> {
         requires framed { Framed self.now }
         requires within { at < length self.now.body.now }
         requires fits { number_of to < 8 }
-        ensures* { λ _. ⌜ working variables.exit tables.exit ≡ with_result (O.Order.levels order.now) (program_of self.now) (scene_of_frame self.now) context at (Some to) (plain (labelled (ObjectName self.now.this) 0)) (working variables.entry tables.entry) ⌝ }
+        ensures { working variables.new tables.new ≡ with_result (O.Order.levels order.now) (program_of self.now) (scene_of_frame self.now) context at (Some to) (plain (labelled (ObjectName self.now.this) 0)) (working variables.old tables.old) }
     {
         let made = Made::Plain(Labelled {
             value: Value::ObjectName(self.this),
@@ -73,7 +73,7 @@ impl<'a> Frame<'a> {
         requires framed { Framed self.now }
         requires within { at < length self.now.body.now }
         requires fits { number_of to < 8 }
-        ensures* { λ _. ⌜ working variables.exit tables.exit ≡ with_result (O.Order.levels order.now) (program_of self.now) (scene_of_frame self.now) context at (Some to) (plain (read (working variables.entry tables.entry) from)) (working variables.entry tables.entry) ⌝ }
+        ensures { working variables.new tables.new ≡ with_result (O.Order.levels order.now) (program_of self.now) (scene_of_frame self.now) context at (Some to) (plain (read (working variables.old tables.old) from)) (working variables.old tables.old) }
     {
         let made = Made::Plain(variables.read(from));
         self.give(order, variables, tables, at, context, Some(to), made);

@@ -56,7 +56,7 @@ pub fn take_turn<O: Order>(
     requires framed { Framed frame.now }
     requires level { frame.now.called_at < (O.Order.levels order.now).count }
     requires nested { nested (length frame.now.body.now) frame.now.body.now 4 0 (length frame.now.body.now) ≡ true }
-    ensures does { ends result (working variables.exit tables.exit) ≡ exec (O.Order.levels order.now) (program_of frame.now) (scene_of_frame frame.now) (length frame.now.body.now) 0 (length frame.now.body.now) frame.now.called_at (working variables.entry tables.entry) }
+    ensures does { ends result (working variables.new tables.new) ≡ exec (O.Order.levels order.now) (program_of frame.now) (scene_of_frame frame.now) (length frame.now.body.now) 0 (length frame.now.body.now) frame.now.called_at (working variables.old tables.old) }
     ensures place { StopsWithin (length frame.now.body.now) result }
 {
     let frame = *frame;

@@ -10,11 +10,11 @@ loop-i-init c =
 
 pub returns-then-is : goal.returns-then-is
 returns-then-is c =
-    sym (c.loop-i.invariant ∙ assigned-here c.args.self.now.body.now c.loop-i.i (c.args.start + c.args.count) c.args.x c.loop-i-test.true _ c.assigned-by.ensures (sym c.if-is.ensures))
+    sym (c.loop-i.invariant ∙ assigned-here c.args.self.now.body.now c.loop-i.i (c.args.start + c.args.count) c.args.x c.loop-i-test.true _ c.assigned_by.ensures (sym c.if-is.ensures))
 
 pub loop-i-preserved : goal.loop-i-preserved
 loop-i-preserved c =
-    c.loop-i.invariant ∙ assigned-later c.args.self.now.body.now c.loop-i.i (c.args.start + c.args.count) c.args.x c.loop-i-test.true _ c.assigned-by.ensures (sym c.if-is.ensures)
+    c.loop-i.invariant ∙ assigned-later c.args.self.now.body.now c.loop-i.i (c.args.start + c.args.count) c.args.x c.loop-i-test.true _ c.assigned_by.ensures (sym c.if-is.ensures)
 
 pub returns : goal.returns
 returns c = sym (c.loop-i.invariant ∙ assigned-none c.args.self.now.body.now c.loop-i.i (c.args.start + c.args.count) c.args.x c.loop-i-test.false)

@@ -6,10 +6,10 @@ use Rattle.statements.proofs.Ranges.{target_fits, known_fits}
 use Rattle.statements.proofs.Telling.{one_of_six, leads_as, changes_as}
 use Rattle.statements.proofs.frame.Frame.carry_out.Goals as goal
 
-pub work-out-requires : goal.work-out-requires
-work-out-requires g c =
+pub work_out-requires : goal.work_out-requires
+work_out-requires g c =
     let f = c.args.self.now in
-    let w = c.in-default in
+    let w = c.in_default in
     record {
       framed = c.requires.framed;
       within = omega arith;

@@ -16,5 +16,5 @@ ask-requires g c =
       fits = c.requires.fits;
       level = omega arith;
       few = omega arith;
-      sender = record { place = c.place.ensures; layer = refl; answered = c.is-some.ensures ∙ some-given c.args.to };
+      sender = record { place = c.place.ensures; layer = refl; answered = c.is_some.ensures ∙ some-given c.args.to };
     }
