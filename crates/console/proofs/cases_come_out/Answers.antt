@@ -11,6 +11,6 @@ returns c =
       unreadable = (refl, refl, refl, refl, refl, refl, refl, refl, refl, refl, refl, refl, refl, refl, refl, refl, refl, refl, refl, refl);
       lists = (refl, refl, refl, refl);
       parted = (refl, refl, refl, refl, refl, refl);
-      put-out = (refl, refl, refl, refl, refl, refl, refl);
+      put_out = (refl, refl, refl, refl, refl, refl, refl);
       tables = (refl, refl, refl);
     }

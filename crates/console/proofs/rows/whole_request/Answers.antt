@@ -15,10 +15,10 @@ more_left : (row : List ℕ) (q : Request) (rest : List ℕ) → request_at row 
 more_left row q [] e h = let z : ◌≡◌ {A = ℕ} 0 1 = cc in absurd (omega arith)
 more_left row q (b ∷ bs) e h = ap whole e
 
-pub returns-then-not-is-at-end : goal.returns-then-not-is-at-end
-returns-then-not-is-at-end c =
-    more_left c.args.row.now _ _ (ap request_at (sym c.new-reader.ensures.left) ∙ c.in-ok-request.ensures) (sym c.if-not-is-at-end.ensures)
+pub returns-then-not-is_at_end : goal.returns-then-not-is_at_end
+returns-then-not-is_at_end c =
+    more_left c.args.row.now _ _ (ap request_at (sym c.new-reader.ensures.left) ∙ c.in_ok-request.ensures) (sym c.if-not-is_at_end.ensures)
 
 pub returns : goal.returns
 returns c =
-    all_read c.args.row.now _ _ (ap request_at (sym c.new-reader.ensures.left) ∙ c.in-ok-request.ensures) (sym c.if-not-is-at-end.ensures)
+    all_read c.args.row.now _ _ (ap request_at (sym c.new-reader.ensures.left) ∙ c.in_ok-request.ensures) (sym c.if-not-is_at_end.ensures)

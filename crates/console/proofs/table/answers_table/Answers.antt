@@ -7,10 +7,10 @@ pub loop-i-preserved : goal.loop-i-preserved
 loop-i-preserved c =
     let ks = c.args.readable.now in
     let i = c.loop-i.i in
-    let rest = c.first-row.result.1.now in
-    let line = c.as-str.ensures.value ∙ c.in-ok-line.ensures in
-    ap (λ ys. ys ++ lines_from (i + 1 + 1) (merged (drop (i + 1) ks) rest)) c.in-ok-push-str.ensures.bytes
-    ∙ line_put (string_bytes c.loop-i.table) c.as-str.result.now ks i c.loop-i.rest.now rest c.first-row.result.0 c.loop-i-test.true c.first-row.ensures.row c.first-row.ensures.rest line
+    let rest = c.first_row.result.1.now in
+    let line = c.as_str.ensures.value ∙ c.in_ok-line.ensures in
+    ap (λ ys. ys ++ lines_from (i + 1 + 1) (merged (drop (i + 1) ks) rest)) c.in_ok-push_str.ensures.bytes
+    ∙ line_put (string_bytes c.loop-i.table) c.as_str.result.now ks i c.loop-i.rest.now rest c.first_row.result.0 c.loop-i-test.true c.first_row.ensures.row c.first_row.ensures.rest line
     ∙ c.loop-i.invariant
 
 pub returns : goal.returns

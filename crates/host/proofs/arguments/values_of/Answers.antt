@@ -9,11 +9,11 @@ use Rattle.host.proofs.arguments.values_of.Goals as goal
 none_said : Argument
 none_said = record { number = pos 0; label = pos 0 }
 
-pub returns-in-default : goal.returns-in-default
+pub returns-in_default : goal.returns-in_default
 unfolding none_said
-returns-in-default g c =
+returns-in_default g c =
     let stands = λ (x : Argument). is_level (g.O.Order.levels c.args.order.now) x.label in
-    sym c.loop-i.invariant.1 ∙ fails_at stands c.args.arguments.now c.loop-i.i none_said c.loop-i-test.true c.in-default.ensures
+    sym c.loop-i.invariant.1 ∙ fails_at stands c.args.arguments.now c.loop-i.i none_said c.loop-i-test.true c.in_default.ensures
 
 pub loop-i-preserved : goal.loop-i-preserved
 unfolding none_said

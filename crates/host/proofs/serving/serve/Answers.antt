@@ -15,8 +15,8 @@ returns-in-Ok g c =
     let requests = map request_of c.args.requests.now in
     let e = c.in-Ok.ensures in
     let formed = ((e.exactly text program).0 e.reads).1 in
-    let r = c.serve-program.result in
-    let h = c.serve-program.ensures in
+    let r = c.serve_program.result in
+    let h = c.serve_program.ensures in
     record {
       exact = exact o laws (reading o.count text) program requests e.reads formed r h;
       loaded = loaded o laws (reading o.count text) program requests e.reads formed r h;

@@ -13,7 +13,7 @@ loop-request-preserved g c =
     let x = c.request-item.result in
     let served = ap (λ p. answer o (classes_of (classes_in p)) (state_in c.loop-request.self) (request_of x)) (sym v.1) ∙ c.answer-answer.ensures.served in (
       ap (λ before. after before (run_from o program (state_in c.answer-answer.new.self) (map request_of (drop (c.loop-request.request-index + 1) c.args.requests.now))))
-          c.in-ok-push.ensures.items
+          c.in_ok-push.ensures.items
           ∙ run_more o program c.args.requests.now (vec_items c.loop-request.answers) (state_in c.loop-request.self) (state_in c.answer-answer.new.self) c.loop-request.request-index x
           c.answer-answer.result c.loop-request-test.true c.request-item.is served
           ∙ v.0,

@@ -10,14 +10,14 @@ use Rattle.host.specs.Hosts.{classes_in, state_in}
 use Rattle.host.proofs.Turns.{body_in, turned-is, stops_short}
 use Rattle.host.proofs.host.Host.carry_out.Goals as goal
 
-pub take-turn-outcome-requires : goal.take-turn-outcome-requires
-take-turn-outcome-requires g c =
-    let cs = c.classes-of-classes.result.now in
-    let ok = c.classes-of-classes.ensures.formed in
+pub take_turn-outcome-requires : goal.take_turn-outcome-requires
+take_turn-outcome-requires g c =
+    let cs = c.classes_of-classes.result.now in
+    let ok = c.classes_of-classes.ensures.formed in
     let class = c.args.object.now.class in
     let method = c.args.call.now.method in
     let body : c.before_last.result.now ≡ body_in cs class method = c.before_last.ensures ∙ ap before_last c.statements_of.ensures in
-    let fields = c.fields-of.ensures in
+    let fields = c.fields_of.ensures in
     record {
       framed =
           record {
@@ -33,17 +33,17 @@ pub returns : goal.returns
 returns g c =
     let o = g.O.Order.levels c.args.order.now in
     let h = c.args.self.now in
-    let cs = c.classes-of-classes.result.now in
-    let ok = c.classes-of-classes.ensures.formed in
+    let cs = c.classes_of-classes.result.now in
+    let ok = c.classes_of-classes.ensures.formed in
     let class = c.args.object.now.class in
     let method = c.args.call.now.method in
     let body : c.before_last.result.now ≡ body_in cs class method = c.before_last.ensures ∙ ap before_last c.statements_of.ensures in
     let short : length c.before_last.result.now ≤ 32 = subst (λ (b : List Statement). length b ≤ 32) (sym body) (body_short 8 (classes_of cs) ok class method) in
     record {
       does =
-          c.take-turn-outcome.ensures.does
+          c.take_turn-outcome.ensures.does
           ∙ turned-is o cs (classes_in h.program) (state_in h) c.args.level c.args.name (object_of c.args.object.now) (call_of c.args.call.now) c.before_last.result.now
-          c.classes-of-classes.ensures.is body;
-      place = stops_short (length c.before_last.result.now) c.take-turn-outcome.result short c.take-turn-outcome.ensures.place;
+          c.classes_of-classes.ensures.is body;
+      place = stops_short (length c.before_last.result.now) c.take_turn-outcome.result short c.take_turn-outcome.ensures.place;
       program = refl;
     }

@@ -6,15 +6,15 @@ use Rattle.host.proofs.Sizes.{futures_few}
 use Rattle.host.proofs.Sent.{as_sent, collect_no_byte}
 use Rattle.host.proofs.host.Host.collect.Goals as goal
 
-pub returns-in-default-byte : goal.returns-in-default-byte
-returns-in-default-byte g c =
+pub returns-in_default-byte : goal.returns-in_default-byte
+returns-in_default-byte g c =
     let o = g.O.Order.levels c.args.order.now in
     let h = c.args.self.now in
     record {
       served =
-          collect_no_byte o (program_in h) (state_in h) c.args.bearer c.args.home c.args.number c.in-Some.level c.in-Some-level-of.home
+          collect_no_byte o (program_in h) (state_in h) c.args.bearer c.args.home c.args.number c.in-Some.level c.in-Some-level_of.home
           (as_sent (level_of o) c.args.bearer _ c.ranges.bearer c.in-Some.ensures)
-          (as_sent (level_of o) c.args.home _ c.ranges.home c.in-Some-level-of.ensures)
-          (as_sent byte_of c.args.number _ c.ranges.number c.in-default-byte.ensures) (futures_few h.tables c.in-Some-level-of.home);
+          (as_sent (level_of o) c.args.home _ c.ranges.home c.in-Some-level_of.ensures)
+          (as_sent byte_of c.args.number _ c.ranges.number c.in_default-byte.ensures) (futures_few h.tables c.in-Some-level_of.home);
       program = refl;
     }

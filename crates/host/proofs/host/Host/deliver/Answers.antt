@@ -16,7 +16,7 @@ returns-in-Err g c =
     let h = c.args.self.now in
     let is = c.classes_of.ensures.is in
     let ok = ap (λ cs. well_formed 8 (classes_of cs)) (sym is) ∙ c.classes_of.ensures.formed in
-    let m = as_sent byte_of c.args.method _ c.ranges.method c.byte_method.ensures in
+    let m = as_sent byte_of c.args.method _ c.ranges.method c.byte-method.ensures in
     record {
       served =
           refused_post o (program_in h) (state_in h) (state_in h) c.args.level c.args.receiver c.args.method c.args.arguments.now ok c.in-Err.why
@@ -24,13 +24,13 @@ returns-in-Err g c =
       program = refl;
     }
 
-pub slice-bounds-send-end : goal.slice-bounds-send-end
-slice-bounds-send-end g c =
+pub slice_bounds-send-end : goal.slice_bounds-send-end
+slice_bounds-send-end g c =
     let o = g.O.Order.levels c.args.order.now in
     let h = c.args.self.now in
     let is = c.classes_of.ensures.is in
     let ok = ap (λ cs. well_formed 8 (classes_of cs)) (sym is) ∙ c.classes_of.ensures.formed in
-    let m = as_sent byte_of c.args.method _ c.ranges.method c.byte_method.ensures in
+    let m = as_sent byte_of c.args.method _ c.ranges.method c.byte-method.ensures in
     let few = admitted_few o (program_in h) (state_in h) c.args.level c.args.receiver (length c.args.arguments.now) true ok (byte_of c.args.method) (object_of c.in-Ok.object)
     (c.in-Ok.ensures ∙ same_verdict o (state_in h) c.args.level c.args.receiver (length c.args.arguments.now) true is m) in search rules
 
@@ -40,7 +40,7 @@ send-owed-requires g c =
     let h = c.args.self.now in
     let is = c.classes_of.ensures.is in
     let ok = ap (λ cs. well_formed 8 (classes_of cs)) (sym is) ∙ c.classes_of.ensures.formed in
-    let m = as_sent byte_of c.args.method _ c.ranges.method c.byte_method.ensures in
+    let m = as_sent byte_of c.args.method _ c.ranges.method c.byte-method.ensures in
     let e = c.in-Ok.ensures ∙ same_verdict o (state_in h) c.args.level c.args.receiver (length c.args.arguments.now) true is m in
     let few = admitted_few o (program_in h) (state_in h) c.args.level c.args.receiver (length c.args.arguments.now) true ok (byte_of c.args.method) (object_of c.in-Ok.object) e in
     record {
@@ -55,7 +55,7 @@ returns g c =
     let h = c.args.self.now in
     let is = c.classes_of.ensures.is in
     let ok = ap (λ cs. well_formed 8 (classes_of cs)) (sym is) ∙ c.classes_of.ensures.formed in
-    let m = as_sent byte_of c.args.method _ c.ranges.method c.byte_method.ensures in
+    let m = as_sent byte_of c.args.method _ c.ranges.method c.byte-method.ensures in
     let e = c.in-Ok.ensures ∙ same_verdict o (state_in h) c.args.level c.args.receiver (length c.args.arguments.now) true is m in
     let few = admitted_few o (program_in h) (state_in h) c.args.level c.args.receiver (length c.args.arguments.now) true ok (byte_of c.args.method) (object_of c.in-Ok.object) e in
     let none-less : length c.args.arguments.now - 0 ≡ length c.args.arguments.now = omega arith in

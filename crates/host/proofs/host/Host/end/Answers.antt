@@ -10,12 +10,12 @@ use Rattle.host.proofs.host.Host.end.Goals as goal
 pub returns : goal.returns
 returns g c =
     let t = c.args.self.now.tables in
-    let t₁ = c.put-object.new.self in
+    let t₁ = c.put_object.new.self in
     let t₂ = c.pay.new.tables in
-    let t₃ = c.drop-call.new.self in
-    let a = c.put-object.ensures in
+    let t₃ = c.drop_call.new.self in
+    let a = c.put_object.ensures in
     let p = c.pay.ensures in
-    let b = c.drop-call.ensures in
+    let b = c.drop_call.ensures in
     let level = c.args.level in
     record {
       state =

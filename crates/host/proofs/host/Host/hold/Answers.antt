@@ -8,10 +8,10 @@ use Rattle.host.proofs.host.Host.hold.Goals as goal
 pub returns : goal.returns
 returns c =
     let t = c.args.self.now.tables in
-    let t₁ = c.put-object.new.self in
-    let t₂ = c.put-call.new.self in
-    let a = c.put-object.ensures in
-    let b = c.put-call.ensures in
+    let t₁ = c.put_object.new.self in
+    let t₂ = c.put_call.new.self in
+    let a = c.put_object.ensures in
+    let b = c.put_call.ensures in
     let call = c.args.call.now in
     let locals = c.args.variables.now.locals in
     let held : Call = record { receiver = call.receiver; method = call.method; locals = λ i. get_or locals i blank; next = c.args.at; owed = call.owed } in

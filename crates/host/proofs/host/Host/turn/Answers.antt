@@ -6,16 +6,16 @@ use Rattle.host.proofs.Sizes.{objects_few}
 use Rattle.host.proofs.Sent.{as_sent, level_below, turn_no_byte}
 use Rattle.host.proofs.host.Host.turn.Goals as goal
 
-pub returns-in-default-byte : goal.returns-in-default-byte
-returns-in-default-byte g c =
+pub returns-in_default-byte : goal.returns-in_default-byte
+returns-in_default-byte g c =
     let o = g.O.Order.levels c.args.order.now in
     let h = c.args.self.now in
     record {
       served =
-          turn_no_byte o (program_in h) (state_in h) c.args.bearer c.args.home c.args.number c.in-Some.level c.in-Some-level-of.home
+          turn_no_byte o (program_in h) (state_in h) c.args.bearer c.args.home c.args.number c.in-Some.level c.in-Some-level_of.home
           (as_sent (level_of o) c.args.bearer _ c.ranges.bearer c.in-Some.ensures)
-          (as_sent (level_of o) c.args.home _ c.ranges.home c.in-Some-level-of.ensures)
-          (as_sent byte_of c.args.number _ c.ranges.number c.in-default-byte.ensures) (objects_few h.tables c.in-Some-level-of.home);
+          (as_sent (level_of o) c.args.home _ c.ranges.home c.in-Some-level_of.ensures)
+          (as_sent byte_of c.args.number _ c.ranges.number c.in_default-byte.ensures) (objects_few h.tables c.in-Some-level_of.home);
       program = refl;
     }
 
@@ -24,5 +24,5 @@ stop-requires g c =
     let o = g.O.Order.levels c.args.order.now in
     let few = (g.met.O.Order.lawful c.args.order.now).few in
     let level = level_below o _ _ c.in-Some.ensures in
-    let home = level_below o _ _ c.in-Some-level-of.ensures in
-    record { level = omega arith; home = omega arith; place = c.carry-out-turned.ensures.place }
+    let home = level_below o _ _ c.in-Some-level_of.ensures in
+    record { level = omega arith; home = omega arith; place = c.carry_out-turned.ensures.place }
