@@ -1,5 +1,5 @@
 -- The promises of a whole run, from the laws of the rules.
-use Rattle.std.proofs.Common.{◌≡◌, ℕ, ◌<◌, true, List, ◌++◌, IfOk, Some, Ok, Err, vec_items, Result, sym, refl, ap, ◌∙◌, subst, arith, MatchResult}
+use Rattle.std.proofs.Common.{◌≡◌, ℕ, true, List, IfOk, Some, Ok, Err, Result, sym, ap, ◌∙◌, subst, arith, MatchResult}
 use Rattle.order.specs.Levels.{Levels, Laws}
 use Rattle.script.specs.declared.fault.BodyFault.{BodyFault}
 use Rattle.script.specs.declared.fault.LoadError.{LoadError}
@@ -7,18 +7,16 @@ use Rattle.script.specs.declared.fault.LoadError.TheVariants.{Fault, Memory}
 use Rattle.script.specs.Classes.{Program}
 use Rattle.script.specs.Drafts.{Failed, Gives}
 use Rattle.script.specs.Layout.{well_formed}
-use Rattle.script.specs.Reading.{reading}
-use Rattle.rules.specs.declared.values.Labelled.{Labelled}
 use Rattle.rules.specs.declared.tables.Future.TheVariants.{Holding}
 use Rattle.rules.specs.Lists.{nth}
 use Rattle.rules.specs.Tables.{State}
 use Rattle.rules.specs.Calling.{Request, Ran, run}
-use Rattle.rules.specs.Laws.{Alike, seen, Owed, LabelsFlow, LabelsAreLevels}
+use Rattle.rules.specs.Laws.{seen, Owed, LabelsFlow, LabelsAreLevels}
 use Rattle.rules.proofs.Secret.{secrecy}
 use Rattle.rules.proofs.Lawful.{labels_flow, labels_levels, futures_owed, values_stay}
 use Rattle.host.specs.declared.serving.Served.{Served}
 use Rattle.host.specs.Hosts.{program_in, state_in}
-use Rattle.host.specs.Promises.{ran_of, run_with, run_of, KeepsSecrets, OwesEach, KeepsValues}
+use Rattle.host.specs.Promises.{ran_of, run_with, KeepsSecrets, OwesEach, KeepsValues}
 
 -- a text that does not load
 pub failed_run : (o : Levels) (told : Result Program BodyFault) (requests : List Request) (e : LoadError) → Failed e told → Failed e (run_with o told requests)

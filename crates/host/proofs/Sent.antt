@@ -5,15 +5,13 @@ use Rattle.order.specs.Levels.{Levels}
 use Rattle.script.specs.Classes.{Program}
 use Rattle.rules.specs.declared.calls.Refusal.{Refusal}
 use Rattle.rules.specs.declared.calls.Refusal.TheVariants.{NotALevel, Unknown, NotMade, Nothing}
-use Rattle.rules.specs.declared.calls.Answer.TheVariants.{Refused}
 use Rattle.rules.specs.declared.calls.Argument.{Argument}
 use Rattle.rules.specs.declared.tables.Note.{Note}
 use Rattle.rules.specs.Lists.{nth, oldest, Placed}
 use Rattle.rules.specs.Values.{name}
-use Rattle.rules.specs.Tables.{State, Object, Call}
-use Rattle.rules.specs.Wrapper.{method_at, class_at, object_for, Verdict, admitted, refused, taking, judged, judged_flow, verdict}
-use Rattle.rules.specs.Turns.{turned}
-use Rattle.rules.specs.Calling.{Request, make, post, turn, collect, note, natural, size, level_of, labels_stand, Served, refuse, require, found, is_for, is_of, taken, posted, stopped, future_for, answer}
+use Rattle.rules.specs.Tables.{State}
+use Rattle.rules.specs.Wrapper.{judged, verdict}
+use Rattle.rules.specs.Calling.{post, turn, collect, note, natural, size, level_of, labels_stand, Served, refuse, require, found, is_of, taken, posted, answer}
 use Rattle.host.specs.Numbers.{byte_of}
 use Rattle.line.proofs.Places.{nth_past}
 

@@ -1,5 +1,5 @@
 -- A turn's frame in memory, and the turn of the rules.
-use Rattle.std.proofs.Common.{◌≡◌, ℕ, ◌-◌, ◌<◌, ◌≤◌, List, [], ◌∷◌, length, get_or, Some, sym, refl, ap, ◌∙◌, arith}
+use Rattle.std.proofs.Common.{◌≡◌, ℕ, ◌-◌, ◌≤◌, List, [], ◌∷◌, length, get_or, Some, refl, ap, ◌∙◌, arith}
 use Rattle.order.specs.Levels.{Levels}
 use Rattle.script.specs.declared.class.Class.{Class as StoredClass}
 use Rattle.script.specs.declared.class.Statement.{Statement}
@@ -9,7 +9,6 @@ use Rattle.script.specs.Classes.{classes_of}
 use Rattle.rules.specs.declared.values.Name.{Name}
 use Rattle.rules.specs.Tables.{State, Object, Call}
 use Rattle.rules.specs.Wrapper.{method_at}
-use Rattle.rules.specs.Statements.{Running, Step}
 use Rattle.rules.specs.Turns.{before_last, statements_of, returned, exec, started, turned}
 use Rattle.stepper.specs.declared.turn.Outcome.{Outcome}
 use Rattle.stepper.specs.declared.turn.Outcome.TheVariants.{Ended, Held}

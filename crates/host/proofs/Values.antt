@@ -1,5 +1,5 @@
 -- Arguments, read one by one.
-use Rattle.std.proofs.Common.{◌≡◌, ℕ, suc, ◌+◌, ◌<◌, ◌≤◌, true, false, List, [], ◌∷◌, ◌++◌, map, length, get_or, take, set, Some, None, Option, sym, refl, ap, ◌∙◌, add-one, arith, length-set, take-suc, get_or-set_same, MatchOption}
+use Rattle.std.proofs.Common.{◌≡◌, ℕ, ◌+◌, ◌<◌, ◌≤◌, true, false, List, [], ◌∷◌, ◌++◌, map, length, get_or, take, set, Some, None, Option, sym, ap, ◌∙◌, add-one, arith, length-set, take-suc, get_or-set_same, MatchOption}
 use lib.Seq.{take-set-le}
 use Rattle.std.proofs.lemmas.List.{map_push, take_all}
 use Rattle.order.specs.Levels.{Levels}

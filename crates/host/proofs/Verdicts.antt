@@ -1,5 +1,5 @@
 -- What is known of a posted call that the wrapper admits.
-use Rattle.std.proofs.Common.{◌≡◌, ℕ, ◌<◌, ◌≤◌, Bool, true, false, cond, eqb, ltb, List, map, length, ℤ, pos, negsuc, Some, None, Option, sym, refl, ap, ◌∙◌, inl, inr, arith}
+use Rattle.std.proofs.Common.{◌≡◌, ℕ, ◌≤◌, Bool, true, eqb, ltb, List, map, length, ℤ, pos, negsuc, Some, None, Option, sym, refl, ap, ◌∙◌, inl, inr, arith}
 use Rattle.std.proofs.lemmas.Bool.{cases_Bool, cond-true, cond-false, ltb-false, eqb-true}
 use Rattle.order.specs.Levels.{Levels}
 use Rattle.script.specs.declared.class.Class.{Class as StoredClass}
@@ -11,11 +11,10 @@ use Rattle.rules.specs.declared.tables.Layer.TheVariants.{AtPost}
 use Rattle.rules.specs.declared.calls.Answer.TheVariants.{Posted}
 use Rattle.rules.specs.declared.calls.Argument.{Argument}
 use Rattle.rules.specs.declared.calls.Refusal.{Refusal}
-use Rattle.rules.specs.Lists.{nth}
 use Rattle.rules.specs.Values.{name}
 use Rattle.rules.specs.Tables.{State, Object}
 use Rattle.rules.specs.Wrapper.{class_at, method_at, taking, room, flows_in, Verdict, admitted, refused, judged, judged_flow, object_for, verdict, next_future, sent}
-use Rattle.rules.specs.Calling.{natural, size, argument_value, Served, posted, refuse}
+use Rattle.rules.specs.Calling.{natural, size, argument_value, posted, refuse}
 use Rattle.rules.proofs.Formed.{few_methods, few_parameters}
 use Rattle.host.specs.Numbers.{byte_of}
 use Rattle.line.proofs.Places.{nth_past}

@@ -10,7 +10,7 @@ use Rattle.rules.specs.declared.calls.Argument.{Argument}
 use Rattle.rules.specs.declared.values.Name.{Name}
 use Rattle.rules.specs.Tables.{State}
 use Rattle.rules.specs.Wrapper.{verdict}
-use Rattle.rules.specs.Calling.{Request, Served, natural, size, posted, answer}
+use Rattle.rules.specs.Calling.{Request, natural, size, posted, answer}
 use Rattle.store.specs.States.{state_of}
 use Rattle.host.specs.declared.host.Host.{Host}
 use Rattle.host.specs.declared.loading.LoadRefusal.{LoadRefusal}

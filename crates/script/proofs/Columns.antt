@@ -1,12 +1,10 @@
 -- A column is read from what is written of a value, and from nothing else.
-use Rattle.std.proofs.Common.{◌≡◌, ℕ, zero, suc, ◌+◌, ◌-◌, ◌<◌, ◌≤◌, Bool, true, false, cond, ◌&&◌, eqb, ltb, leb, ℤ, pos, negsuc, Some, None, Option, sym, refl, ap, ◌∙◌, subst, arith, w32, SFits}
-use Rattle.std.proofs.lemmas.Bool.{cond_both, cond-true, cond-false, and_parts, and_from, eqb-true, eq-eqb, ltb-true, ltb-false, lt-ltb, le-ltb}
+use Rattle.std.proofs.Common.{◌≡◌, ℕ, ◌+◌, ◌-◌, ◌<◌, Bool, true, false, ◌&&◌, eqb, ltb, ℤ, pos, negsuc, Some, None, Option, sym, refl, ap, ◌∙◌, subst, arith, w32, SFits}
+use Rattle.std.proofs.lemmas.Bool.{cond_both, cond-true, cond-false, and_parts, eqb-true, eq-eqb, ltb-true, ltb-false, lt-ltb, le-ltb}
 use Rattle.script.specs.declared.class.Variable.{Variable}
 use Rattle.script.specs.declared.class.Variable.TheVariants.{Local, Field as OfObject}
-use Rattle.script.specs.declared.class.Arguments.{Arguments}
-use Rattle.script.specs.declared.class.Arguments.TheVariants.{Empty, One, Two, Three, Four}
-use Rattle.script.specs.Rows.{is, and, when, below, variable, optional, arguments}
-use Rattle.script.specs.Layout.{variable_column, optional_column, exists, exists_if_any, arguments_exist, fits_32}
+use Rattle.script.specs.Rows.{is, and, when, below, variable, optional}
+use Rattle.script.specs.Layout.{variable_column, optional_column, exists, exists_if_any, fits_32}
 use Rattle.script.proofs.Lines.{none}
 
 -- STEPS

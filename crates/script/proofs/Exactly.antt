@@ -1,9 +1,9 @@
 -- A text is read as a program exactly when it is the text of that program.
-use Rattle.std.proofs.Common.{◌≡◌, ℕ, zero, suc, ◌+◌, ◌<◌, ◌≤◌, true, ◌↔◌, List, [], ◌∷◌, ◌++◌, length, Ok, sym, refl, ap, ◌∙◌, append_assoc, append-nil, arith}
+use Rattle.std.proofs.Common.{◌≡◌, ℕ, zero, suc, ◌+◌, ◌≤◌, true, List, [], ◌∷◌, ◌++◌, length, Ok, sym, refl, ap, ◌∙◌, append_assoc, append-nil, arith}
 use Rattle.script.specs.declared.reader.Row.{Row}
 use Rattle.script.specs.Bytes.{Got, got, bad, names, bytes_at}
 use Rattle.script.specs.Classes.{Program}
-use Rattle.script.specs.Layout.{row_text, rows_text, text_of, rows_of, classes_rows, well_formed}
+use Rattle.script.specs.Layout.{row_text, rows_text, text_of, rows_of, well_formed}
 use Rattle.script.specs.Reading.{Draft, nothing, row_from, rows_from, after_names, reading}
 use Rattle.script.specs.Laws.{ReadsExactly, OneText}
 use Rattle.script.proofs.Lines.{none, bytes_only, bytes_back, row_only}

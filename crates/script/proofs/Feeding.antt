@@ -1,20 +1,17 @@
 -- What is written is read: the rows of a well-formed program, one after the other, make the draft of that program.
-use Rattle.std.proofs.Common.{◌≡◌, ℕ, zero, suc, ◌+◌, ◌-◌, ◌<◌, ◌≤◌, Bool, true, false, cond, ◌&&◌, eqb, ltb, leb, List, [], ◌∷◌, ◌++◌, map, length, ℤ, pos, Some, None, Ok, Err, Option, Result, sym, refl, ap, ◌∙◌, subst, append_assoc, append-nil, arith, length-append}
-use Rattle.std.proofs.lemmas.Bool.{and_parts, and_from, and_right, leb-true, ltb-true, le-leb, lt-ltb, eq-eqb, ne_eqb, cond-true, cond-false}
-use Rattle.std.proofs.lemmas.Bool.Decides.{nat_tests}
+use Rattle.std.proofs.Common.{◌≡◌, ℕ, suc, ◌+◌, ◌<◌, ◌≤◌, Bool, true, false, ltb, leb, List, [], ◌∷◌, ◌++◌, map, length, pos, Some, None, Ok, Err, Result, sym, refl, ap, ◌∙◌, subst, append_assoc, append-nil, arith, length-append}
+use Rattle.std.proofs.lemmas.Bool.{and_parts, and_from, and_right, leb-true, ltb-true, le-leb, lt-ltb, eq-eqb, ne_eqb}
 use Rattle.script.specs.declared.class.Statement.{Statement as Operation}
 use Rattle.script.specs.declared.fault.BodyFault.{BodyFault}
 use Rattle.script.specs.declared.reader.Kind.TheVariants.{Field, Parameters, Statement}
 use Rattle.script.specs.declared.reader.Row.{Row}
 use Rattle.script.specs.declared.row.Place.{Place}
 use Rattle.script.specs.declared.row.Item.TheVariants.{Label, Head, Action}
-use Rattle.script.specs.declared.row.Entry.{Entry}
 use Rattle.script.specs.declared.heading.Heading.{Heading}
 use Rattle.script.specs.Rows.{begun, begins_class, field_follows, method_follows, statement_follows, entry}
 use Rattle.script.specs.Classes.{Method, Class, Program}
-use Rattle.script.specs.Bodies.{stands}
-use Rattle.script.specs.Layout.{columns_of, letter_of, field_row, field_rows, head_row, statement_row, method_rows, methods_rows, class_rows, classes_rows, rows_text, row_text, every, in_range, method_formed, class_formed, well_formed}
-use Rattle.script.specs.Reading.{Draft, bind, nothing, place, close_method, close_body, close_class, turn_class, with_field, with_heading, take_in, all_classes, finish}
+use Rattle.script.specs.Layout.{letter_of, field_row, field_rows, head_row, statement_row, method_rows, methods_rows, class_rows, classes_rows, rows_text, row_text, every, in_range, method_formed, class_formed, well_formed}
+use Rattle.script.specs.Reading.{Draft, bind, nothing, place, close_body, turn_class, with_field, with_heading, finish}
 use Rattle.script.proofs.Lines.{none, Fits}
 use Rattle.script.proofs.Rowing.{rows_in, rows_feed}
 use Rattle.script.proofs.Saying.{row_fits, plain_fits, statement_small, statement_back}

@@ -1,10 +1,8 @@
 -- What is read is what is written: each row that a draft takes in is the next row of the draft, and the draft stays well-formed.
-use Rattle.std.proofs.Common.{◌≡◌, ℕ, zero, suc, ◌+◌, ◌-◌, ◌<◌, ◌≤◌, Bool, true, false, cond, ◌&&◌, eqb, ltb, leb, List, [], ◌∷◌, ◌++◌, map, length, ℤ, pos, Some, None, Ok, Err, Option, Result, sym, refl, ap, ◌∙◌, subst, append_assoc, append-nil, zero-add, arith, length-append}
+use Rattle.std.proofs.Common.{◌≡◌, ℕ, ◌+◌, ◌-◌, ◌<◌, ◌≤◌, Bool, true, false, cond, ◌&&◌, eqb, ltb, leb, List, [], ◌∷◌, ◌++◌, map, length, pos, Some, None, Ok, Option, sym, refl, ap, ◌∙◌, subst, append_assoc, append-nil, zero-add, arith, length-append}
 use Rattle.std.proofs.lemmas.Bool.{cond_both, and_parts, and_from, leb-true, ltb-true, ltb-false, eqb-true, le-leb, lt-ltb}
 use Rattle.std.proofs.lemmas.List.{map_push, nil_from_length}
 use Rattle.script.specs.declared.class.Statement.{Statement as Operation}
-use Rattle.script.specs.declared.fault.BodyFault.{BodyFault}
-use Rattle.script.specs.declared.fault.BodyFault.TheVariants.{Body}
 use Rattle.script.specs.declared.reader.Letter.{Letter}
 use Rattle.script.specs.declared.reader.Kind.{Kind}
 use Rattle.script.specs.declared.reader.Kind.TheVariants.{Field, Parameters, Statement}
@@ -14,11 +12,11 @@ use Rattle.script.specs.declared.row.Item.{Item}
 use Rattle.script.specs.declared.row.Item.TheVariants.{Label, Head, Action}
 use Rattle.script.specs.declared.row.Entry.{Entry}
 use Rattle.script.specs.declared.heading.Heading.{Heading}
-use Rattle.script.specs.Rows.{is, below, unused_b, begun, begins_class, follows, field_follows, method_follows, statement_follows, statement, label, head, item, ranged, entry}
+use Rattle.script.specs.Rows.{is, below, unused_b, begins_class, follows, field_follows, method_follows, statement_follows, statement, label, head, item, ranged, entry}
 use Rattle.script.specs.Classes.{Method, Class, Program}
 use Rattle.script.specs.Bodies.{stands}
 use Rattle.script.specs.Layout.{Columns, three, columns_of, letter_of, row, field_row, field_rows, head_row, statement_row, method_rows, methods_rows, class_rows, classes_rows, rows_of, every, in_range, method_formed, class_formed, well_formed}
-use Rattle.script.specs.Reading.{Draft, bind, nothing, open_methods, place, close_method, close_body, close_class, turn_class, with_field, with_heading, with_statement, take_in, all_classes, finish}
+use Rattle.script.specs.Reading.{Draft, nothing, open_methods, place, close_method, close_body, close_class, turn_class, with_field, with_heading, with_statement, take_in, all_classes, finish}
 use Rattle.script.proofs.Lines.{none, Fits}
 use Rattle.script.proofs.Rowing.{by_bind}
 use Rattle.script.proofs.Columns.{by_and, by_when, is_only, below_only}

@@ -1,10 +1,10 @@
 -- What stands at the front of some bytes, as the reader's loops come to it.
-use Rattle.std.proofs.Common.{◌≡◌, ℕ, ◌+◌, ◌-◌, ◌*◌, ◌^◌, ◌<◌, ◌≤◌, true, false, cond, eqb, leb, List, [], ◌∷◌, length, get_or, drop, ℤ, pos, ◌-ℤ◌, neg_ℤ, sym, refl, arith, w32, w64, to_z, of_z}
+use Rattle.std.proofs.Common.{◌≡◌, ℕ, ◌+◌, ◌-◌, ◌*◌, ◌^◌, ◌<◌, ◌≤◌, eqb, List, [], ◌∷◌, length, get_or, drop, ℤ, pos, ◌-ℤ◌, neg_ℤ, sym, refl, arith, w32, w64, to_z, of_z}
 use Rattle.std.proofs.lemmas.Int.{ints}
 use Rattle.std.specs.Char.{is_ascii_digit}
 use Rattle.std.proofs.lemmas.Bool.{cond_both, cond-true, cond-false, lt-leb, eq-eqb, ne_eqb}
 use Rattle.std.proofs.lemmas.List.{drop_more}
-use Rattle.script.specs.Bytes.{Got, got, bad, digits_on, magnitude_at, number_at, positive, bytes_at, Unlike}
+use Rattle.script.specs.Bytes.{bad, digits_on, magnitude_at, number_at, positive, bytes_at, Unlike}
 
 -- more digits do not make it smaller
 pub too_large : (most n : ℕ) (bs : List ℕ) → most < n → digits_on most n bs ≡ bad

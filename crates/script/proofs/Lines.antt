@@ -1,5 +1,5 @@
 -- A row is read from its text, and from nothing else.
-use Rattle.std.proofs.Common.{◌≡◌, ℕ, ◌<◌, ◌≤◌, true, false, cond, eqb, List, [], ◌∷◌, ◌++◌, length, ℤ, sym, refl, ap, ◌∙◌, subst, append_assoc, arith, length-append, w32, SFits}
+use Rattle.std.proofs.Common.{◌≡◌, ℕ, ◌<◌, false, cond, eqb, List, [], ◌∷◌, ◌++◌, length, ℤ, sym, refl, ap, ◌∙◌, subst, append_assoc, arith, length-append, w32, SFits}
 use Rattle.std.specs.Char.{is_ascii_digit}
 use Rattle.std.specs.Fmt.{signed_decimal}
 use Rattle.std.proofs.lemmas.Bool.{cond_both, cond-true, eq-eqb, eqb-true}
@@ -9,7 +9,7 @@ use Rattle.script.specs.declared.reader.Kind.{Kind}
 use Rattle.script.specs.declared.reader.Kind.TheVariants.{Field, Parameters, Statement}
 use Rattle.script.specs.declared.reader.Row.{Row}
 use Rattle.script.specs.Bytes.{Got, got, bad, then, byte_at, bytes_at, number_at, kind_at, column_at, row_at}
-use Rattle.script.specs.Layout.{kind_code, column_text, row_text}
+use Rattle.script.specs.Layout.{kind_code, row_text}
 use Rattle.script.proofs.Spelling.{number_back, number_only}
 
 pub none : {X : Type 0} → ◌≡◌ {A = ℕ} 0 1 → X

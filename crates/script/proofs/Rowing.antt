@@ -1,5 +1,5 @@
 -- The rows of a text, one by one: more fuel than bytes changes nothing.
-use Rattle.std.proofs.Common.{◌≡◌, ℕ, zero, suc, ◌+◌, ◌<◌, ◌≤◌, Bool, true, false, cond, List, [], ◌∷◌, ◌++◌, length, Ok, Err, Result, sym, refl, ap, ◌∙◌, arith, length-append}
+use Rattle.std.proofs.Common.{◌≡◌, ℕ, zero, suc, ◌+◌, ◌<◌, ◌≤◌, List, [], ◌∷◌, ◌++◌, length, Ok, Err, Result, sym, refl, ap, ◌∙◌, arith, length-append}
 use Rattle.script.specs.declared.fault.RowFault.{RowFault}
 use Rattle.script.specs.declared.fault.BodyFault.{BodyFault}
 use Rattle.script.specs.declared.reader.Row.{Row}

@@ -1,5 +1,5 @@
 -- A statement is read from its columns, and from nothing else.
-use Rattle.std.proofs.Common.{◌≡◌, ℕ, ◌+◌, ◌<◌, ◌≤◌, Bool, true, false, cond, ◌&&◌, ltb, ℤ, pos, negsuc, Some, None, Option, sym, refl, ap, ◌∙◌, subst, arith, w32, SFits}
+use Rattle.std.proofs.Common.{◌≡◌, ℕ, ◌<◌, ◌≤◌, true, ◌&&◌, ltb, ℤ, pos, Some, None, Option, sym, refl, subst, arith, w32, SFits}
 use Rattle.std.proofs.lemmas.Bool.{and_parts, and_from, ltb-true}
 use Rattle.script.specs.declared.class.Variable.{Variable}
 use Rattle.script.specs.declared.class.Arguments.{Arguments}
@@ -9,9 +9,8 @@ use Rattle.script.specs.declared.class.Statement.TheVariants.{Constant, Itself, 
 use Rattle.script.specs.declared.reader.Letter.{Letter}
 use Rattle.script.specs.declared.reader.Letter.TheVariants.{N, T, C, A, D, L, I, M, G, O, R}
 use Rattle.script.specs.declared.reader.Kind.{Kind}
-use Rattle.script.specs.declared.reader.Kind.TheVariants.{Field, Parameters, Statement}
 use Rattle.script.specs.declared.reader.Row.{Row}
-use Rattle.script.specs.Rows.{is, and, when, below, variable, optional, arguments, unused_b, unused_c, unused_d, two_variables, three_variables, passed, statement}
+use Rattle.script.specs.Rows.{is, and, below, variable, optional, arguments, unused_b, unused_c, unused_d, two_variables, three_variables, passed, statement}
 use Rattle.script.specs.Layout.{Columns, three, invocation, variable_column, optional_column, columns_of, letter_of, row, exists, exists_if_any, arguments_exist, in_range}
 use Rattle.script.proofs.Lines.{none, Fits}
 use Rattle.script.proofs.Columns.{by_and, by_when, is_only, below_only, below_back, fits_only, fits_back, small_fits, minus_fits, variable_only, variable_back, variable_fits, optional_only, optional_back, optional_fits}

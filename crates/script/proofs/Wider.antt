@@ -1,10 +1,9 @@
 -- What is well-formed under some levels is well-formed under more.
-use Rattle.std.proofs.Common.{◌≡◌, ℕ, ◌+◌, ◌≤◌, Bool, true, ◌&&◌, ltb, leb, List, [], ◌∷◌, length, refl, arith}
+use Rattle.std.proofs.Common.{◌≡◌, ℕ, ◌+◌, ◌≤◌, Bool, true, ltb, leb, List, [], ◌∷◌, length, refl, arith}
 use Rattle.std.proofs.lemmas.Bool.{and_parts, and_from, ltb-true, lt-ltb}
 use Rattle.script.specs.declared.class.Statement.{Statement}
 use Rattle.script.specs.declared.class.Statement.TheVariants.{Constant, Itself, Copy, Add, Subtract, Less, Branch, Invoke, Get, Create, Return}
 use Rattle.script.specs.Classes.{Method, Class, Program}
-use Rattle.script.specs.Bodies.{stands}
 use Rattle.script.specs.Layout.{every, exists, in_range, method_formed, class_formed, well_formed}
 
 every_more : {X : Type 0} (test more : X → Bool) (xs : List X) → ((x : X) → test x ≡ true → more x ≡ true) → every test xs ≡ true → every more xs ≡ true

@@ -1,7 +1,6 @@
 -- What stands at the front of some bytes: a number, a letter, a row.
 use Rattle.std.specs.Prelude.{◌≡◌, ℕ, ◌+◌, ◌-◌, ◌*◌, ◌^◌, false, cond, List, [], ◌∷◌, ℤ, pos, neg_ℤ, codes, ◌==◌, nat_le}
 use Rattle.std.specs.Char.{is_ascii_digit}
-use Rattle.script.specs.declared.reader.Letter.{Letter}
 use Rattle.script.specs.declared.reader.Letter.TheVariants.{N, T, C, A, D, L, I, M, G, O, R}
 use Rattle.script.specs.declared.reader.Kind.{Kind}
 use Rattle.script.specs.declared.reader.Kind.TheVariants.{Field, Parameters, Statement}

@@ -1,5 +1,5 @@
 -- What the memory of a draft holds, and what a method of a draft did.
-use Rattle.std.specs.Prelude.{◌≡◌, ◌⊎◌, map, Ok, Err, vec_items, Result}
+use Rattle.std.specs.Prelude.{◌≡◌, map, Ok, Err, vec_items, Result}
 use Rattle.script.specs.declared.fault.BodyFault.{BodyFault}
 use Rattle.script.specs.declared.fault.LoadError.{LoadError}
 use Rattle.script.specs.declared.fault.LoadError.TheVariants.{Fault, Memory}

@@ -1,8 +1,6 @@
 -- What each fault tells: its line, its cause and its layer.
 use Rattle.std.specs.Prelude.{ℕ}
-use Rattle.script.specs.declared.fault.ByteFault.{ByteFault}
 use Rattle.script.specs.declared.fault.ByteFault.TheVariants.{Names, Form}
-use Rattle.script.specs.declared.fault.RowFault.{RowFault}
 use Rattle.script.specs.declared.fault.RowFault.TheVariants.{Bytes, Sequence, Range}
 use Rattle.script.specs.declared.fault.BodyFault.{BodyFault}
 use Rattle.script.specs.declared.fault.BodyFault.TheVariants.{Rows, Body}

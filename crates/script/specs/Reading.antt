@@ -1,5 +1,5 @@
 -- What a text is read as: a program, or its first fault.
-use Rattle.std.specs.Prelude.{ℕ, zero, suc, ◌+◌, Bool, true, false, cond, List, [], ◌∷◌, ◌++◌, length, Some, None, Ok, Err, Option, Result}
+use Rattle.std.specs.Prelude.{ℕ, zero, suc, ◌+◌, Bool, cond, List, [], ◌∷◌, ◌++◌, length, Some, None, Ok, Err, Option, Result}
 use Rattle.script.specs.declared.class.Statement.{Statement}
 use Rattle.script.specs.declared.fault.ByteFault.TheVariants.{Names, Form}
 use Rattle.script.specs.declared.fault.RowFault.{RowFault}

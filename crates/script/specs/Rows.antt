@@ -1,5 +1,5 @@
 -- The second layer: whether a row may stand where it stands, and what its columns mean.
-use Rattle.std.specs.Prelude.{ℕ, ◌+◌, ◌-◌, Bool, true, false, cond, not, ◌&&◌, ℤ, pos, negsuc, Some, None, Ok, Err, Option, Result, ◌==◌, nat_le, nat_lt}
+use Rattle.std.specs.Prelude.{ℕ, ◌+◌, ◌-◌, Bool, false, cond, ◌&&◌, ℤ, pos, negsuc, Some, None, Ok, Err, Option, Result, ◌==◌, nat_le, nat_lt}
 use Rattle.script.specs.declared.class.Variable.{Variable}
 use Rattle.script.specs.declared.class.Variable.TheVariants.{Local, Field as OfObject}
 use Rattle.script.specs.declared.class.Arguments.{Arguments}

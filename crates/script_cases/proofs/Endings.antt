@@ -1,5 +1,5 @@
 -- How far a text's ending is, line by line.
-use Rattle.std.proofs.Common.{◌≡◌, ℕ, suc, ◌+◌, ◌-◌, ◌<◌, ◌≤◌, Bool, true, false, cond, ◌&&◌, eqb, List, [], ◌∷◌, length, take, drop, is_some, Some, None, codes, Decides, Option, sym, refl, ap, ◌∙◌, ⊎_elim, arith, length-drop, rules}
+use Rattle.std.proofs.Common.{◌≡◌, ℕ, suc, ◌+◌, ◌-◌, ◌≤◌, Bool, true, false, cond, eqb, List, [], ◌∷◌, length, take, drop, is_some, Some, None, codes, Decides, sym, refl, ap, ◌∙◌, ⊎_elim, arith, length-drop, rules}
 use Rattle.std.specs.Str.{bytes_eq}
 use Rattle.std.proofs.str.Laws.{order}
 use Rattle.std.proofs.lemmas.Slice.Eq.{bytes_eq-Decides}

@@ -1,5 +1,5 @@
 -- Where a line ends, and where a case's text ends.
-use Rattle.std.specs.Prelude.{ℕ, ◌+◌, ◌-◌, Bool, true, false, cond, ◌&&◌, List, [], ◌∷◌, take, drop, is_some, Some, None, codes, Option, ◌==◌}
+use Rattle.std.specs.Prelude.{ℕ, ◌+◌, ◌-◌, Bool, true, cond, ◌&&◌, List, [], ◌∷◌, take, drop, is_some, Some, None, codes, Option, ◌==◌}
 use Rattle.std.specs.Str.{bytes_eq}
 use Rattle.script_cases.specs.declared.table.Ending.{Ending}
 use Rattle.script_cases.specs.declared.table.Ending.TheVariants.{Whole, Short}

@@ -1,5 +1,5 @@
 -- What a verdict says of what loading answered.
-use Rattle.std.specs.Prelude.{◌≡◌, ℕ, length, Ok, Err, vec_items, Result}
+use Rattle.std.specs.Prelude.{◌≡◌, length, Ok, Err, vec_items, Result}
 use Rattle.script.specs.declared.program.Program.{Program}
 use Rattle.script.specs.declared.fault.LoadError.{LoadError}
 use Rattle.script.specs.declared.fault.LoadError.TheVariants.{Fault, Memory}

@@ -1,5 +1,5 @@
 -- A new call, last in line.
-use Rattle.std.proofs.Common.{◌≡◌, ℕ, Bool, true, cond, ltb, List, length, get_or, Some, None, Option, sym, refl, ap, ◌∙◌}
+use Rattle.std.proofs.Common.{◌≡◌, ℕ, Bool, true, cond, ltb, List, length, get_or, Some, None, Option, ap, ◌∙◌}
 use Rattle.std.proofs.lemmas.Bool.{cond-true}
 use Rattle.rules.specs.declared.values.Labelled.{Labelled}
 use Rattle.rules.specs.declared.values.Name.{Name}

@@ -1,8 +1,8 @@
 -- Classes and methods by number, in memory and as the rules have them.
-use Rattle.std.proofs.Common.{◌≡◌, ℕ, zero, suc, ◌<◌, ◌≤◌, List, [], ◌∷◌, map, length, get_or, Some, None, Option, sym, refl, ap, ◌∙◌, arith}
+use Rattle.std.proofs.Common.{◌≡◌, ℕ, zero, suc, ◌<◌, ◌≤◌, List, [], ◌∷◌, map, length, get_or, Some, sym, ap, ◌∙◌, arith}
 use Rattle.std.proofs.lemmas.List.{get_or-map, get_or_past, length-map}
 use Rattle.script.specs.declared.class.Class.{Class as StoredClass}
-use Rattle.script.specs.Classes.{Class, class_of, classes_of}
+use Rattle.script.specs.Classes.{class_of, classes_of}
 use Rattle.rules.specs.Lists.{nth}
 use Rattle.rules.specs.Wrapper.{class_at}
 

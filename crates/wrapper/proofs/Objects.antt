@@ -1,5 +1,5 @@
 -- Why an object is not made, and what a new one is.
-use Rattle.std.proofs.Common.{◌≡◌, ℕ, ◌<◌, ◌≤◌, true, false, cond, ltb, List, [], length, get_or, Some, None, sym, refl, ap, ◌∙◌, inl, inr, arith}
+use Rattle.std.proofs.Common.{◌≡◌, ℕ, ◌<◌, ◌≤◌, true, false, cond, ltb, List, length, get_or, Some, None, sym, ap, ◌∙◌, inl, inr, arith}
 use mathlib.Core.Path.{fun_ext}
 use Rattle.std.proofs.lemmas.List.{length-map, get_or_past}
 use Rattle.std.proofs.lemmas.Bool.{cases_Bool, cond-true, cond-false, lt-ltb, le-ltb, ltb-true, ltb-false}
@@ -9,7 +9,7 @@ use Rattle.script.specs.Classes.{class_of, classes_of}
 use Rattle.rules.specs.declared.values.Labelled.{Labelled}
 use Rattle.rules.specs.declared.calls.Refusal.TheVariants.{Unknown, NoFlow, Full}
 use Rattle.rules.specs.Lists.{added, snoc}
-use Rattle.rules.specs.Tables.{State, Object}
+use Rattle.rules.specs.Tables.{State}
 use Rattle.rules.specs.Values.{nought, blank}
 use Rattle.rules.specs.Wrapper.{class_at, makeable, unmakeable, new_object}
 use Rattle.wrapper.specs.Floors.{floor_in}

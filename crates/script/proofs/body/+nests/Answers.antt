@@ -1,4 +1,4 @@
-use Rattle.std.proofs.Common.{◌≡◌, ◌<◌, ◌&&◌, sym, refl, ◌∙◌, inl, inr, arith}
+use Rattle.std.proofs.Common.{sym, refl, ◌∙◌, inl, inr, arith}
 use Rattle.script.proofs.Nesting.{branch_never, branch_first, plain_first}
 use Rattle.script.proofs.body.+nests.Goals as goal
 

@@ -1,4 +1,3 @@
-use Rattle.std.proofs.Common.{◌≡◌}
 use Rattle.script_check.proofs.Cutting.{Uncut}
 use Rattle.script_check.proofs.lines.line_end.Given as goal
 

@@ -1,6 +1,5 @@
-use Rattle.std.proofs.Common.{◌≡◌, ℕ, Bool, sym, ap, ◌∙◌}
+use Rattle.std.proofs.Common.{ℕ, sym, ap, ◌∙◌}
 use Rattle.wrapper.proofs.Every.{fails_at, passes_at, passes_all}
-use Rattle.wrapper.proofs.making.floors_flow.Given as given
 use Rattle.wrapper.proofs.making.floors_flow.Goals as goal
 
 pub returns-then-not-flows : goal.returns-then-not-flows

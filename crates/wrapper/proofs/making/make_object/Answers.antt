@@ -1,6 +1,5 @@
-use Rattle.std.proofs.Common.{◌≡◌, ◌<◌, ◌≤◌, length, sym, refl, ap, ◌∙◌, arith}
+use Rattle.std.proofs.Common.{◌<◌, ◌≤◌, length, sym, refl, ap, ◌∙◌, arith}
 use Rattle.rules.specs.Lists.{update}
-use Rattle.rules.specs.Tables.{object_of}
 use Rattle.rules.specs.Values.{name}
 use Rattle.store.specs.States.{state_of, objects_of}
 use Rattle.store.proofs.Stating.{by_objects}

@@ -1,4 +1,4 @@
-use Rattle.std.proofs.Common.{◌≡◌, ◌<◌, ◌≤◌, [], length, get_or, sym, ap, ◌∙◌, arith, length-set}
+use Rattle.std.proofs.Common.{◌<◌, [], length, get_or, sym, ap, ◌∙◌, arith, length-set}
 use Rattle.rules.specs.Values.{given, nought, blank}
 use Rattle.rules.specs.Wrapper.{shown}
 use Rattle.store.specs.States.{notes_of}

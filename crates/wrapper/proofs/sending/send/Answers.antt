@@ -1,8 +1,5 @@
-use Rattle.std.proofs.Common.{◌≡◌, ◌<◌, true, [], map, length, sym, ap, ◌∙◌, arith}
-use Rattle.rules.specs.Lists.{update}
-use Rattle.rules.specs.Tables.{call_of, object_of}
-use Rattle.rules.specs.Wrapper.{ticket}
-use Rattle.store.specs.States.{state_of, calls_of, futures_of}
+use Rattle.std.proofs.Common.{ap, ◌∙◌}
+use Rattle.store.specs.States.{state_of, calls_of}
 use Rattle.store.proofs.Stating.{state_is, objects_stay, futures_stay, calls_stay, notes_stay}
 use Rattle.wrapper.proofs.Calls.{ticket_in, place-free, line_more, call_new}
 use Rattle.wrapper.specs.Sends.{with_future}

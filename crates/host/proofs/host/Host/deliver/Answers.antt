@@ -1,9 +1,8 @@
-use Rattle.std.proofs.Common.{◌≡◌, ℕ, ◌-◌, ◌≤◌, true, List, length, take, Option, sym, refl, ap, ◌∙◌, arith, length-take, rules}
-use Rattle.script.specs.declared.class.Class.{Class as StoredClass}
+use Rattle.std.proofs.Common.{◌≡◌, ◌-◌, true, length, take, sym, refl, ap, ◌∙◌, arith, rules}
 use Rattle.script.specs.Classes.{classes_of}
 use Rattle.script.specs.Layout.{well_formed}
 use Rattle.rules.specs.Tables.{object_of}
-use Rattle.rules.specs.Wrapper.{verdict, next_future}
+use Rattle.rules.specs.Wrapper.{next_future}
 use Rattle.host.specs.Hosts.{program_in, state_in}
 use Rattle.host.specs.Numbers.{byte_of}
 use Rattle.host.proofs.Sent.{as_sent}

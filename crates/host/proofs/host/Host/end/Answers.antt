@@ -1,4 +1,4 @@
-use Rattle.std.proofs.Common.{◌≡◌, ℕ, List, refl, ap, ◌∙◌}
+use Rattle.std.proofs.Common.{ℕ, List, refl, ap, ◌∙◌}
 use Rattle.rules.specs.declared.tables.Future.{Future}
 use Rattle.rules.specs.Lists.{update, without}
 use Rattle.rules.specs.Tables.{Call}

@@ -1,4 +1,4 @@
-use Rattle.std.proofs.Common.{◌≡◌, ℕ, List, get_or, set, refl, ap, ◌∙◌}
+use Rattle.std.proofs.Common.{ℕ, List, get_or, set, refl, ap, ◌∙◌}
 use Rattle.rules.specs.Values.{blank}
 use Rattle.rules.specs.Lists.{update}
 use Rattle.rules.specs.Tables.{Call}

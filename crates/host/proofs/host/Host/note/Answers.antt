@@ -1,9 +1,9 @@
-use Rattle.std.proofs.Common.{◌≡◌, ◌<◌, ◌≤◌, length, sym, refl, ap, ◌∙◌, arith}
+use Rattle.std.proofs.Common.{◌<◌, ◌≤◌, length, sym, refl, ap, ◌∙◌, arith}
 use Rattle.std.proofs.lemmas.List.{length-map}
 use Rattle.rules.specs.declared.calls.Answer.TheVariants.{Noted}
-use Rattle.rules.specs.Calling.{level_of, Served}
+use Rattle.rules.specs.Calling.{level_of}
 use Rattle.rules.specs.Tables.{State}
-use Rattle.script.specs.Classes.{class_of, classes_of}
+use Rattle.script.specs.Classes.{class_of}
 use Rattle.store.proofs.Stating.{by_notes}
 use Rattle.host.specs.Hosts.{classes_in, program_in, state_in}
 use Rattle.host.specs.Numbers.{byte_of}

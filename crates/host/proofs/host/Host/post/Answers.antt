@@ -1,9 +1,9 @@
-use Rattle.std.proofs.Common.{refl, ◌∙◌}
+use Rattle.std.proofs.Common.{refl}
 use Rattle.rules.specs.Calling.{level_of}
 use Rattle.host.specs.Hosts.{program_in, state_in}
 use Rattle.host.specs.Numbers.{byte_of}
 use Rattle.host.proofs.Sizes.{objects_few}
-use Rattle.host.proofs.Sent.{as_sent, post_no_byte, post_some}
+use Rattle.host.proofs.Sent.{as_sent, post_no_byte}
 use Rattle.host.proofs.host.Host.post.Goals as goal
 
 pub returns-in_default-byte : goal.returns-in_default-byte

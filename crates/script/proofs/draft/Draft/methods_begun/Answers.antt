@@ -1,6 +1,5 @@
-use Rattle.std.proofs.Common.{◌≡◌, ◌+◌, vec_items, arith}
+use Rattle.std.proofs.Common.{vec_items, arith}
 use Rattle.script.specs.Classes.{method_of}
-use Rattle.script.specs.Reading.{open_methods}
 use Rattle.script.proofs.Drafting.{as_many}
 use Rattle.script.proofs.draft.Draft.methods_begun.Goals as goal
 

@@ -1,5 +1,5 @@
 use Rattle.std.proofs.Common.{◌≡◌, ◌<◌, length}
-use Rattle.script.specs.Bytes.{digits_on, magnitude_at}
+use Rattle.script.specs.Bytes.{digits_on}
 use Rattle.script.specs.Readers.{left, Kept}
 use Rattle.script.proofs.reader.Reader.magnitude.Given as goal
 

@@ -1,5 +1,5 @@
 use Rattle.std.proofs.Common.{◌≡◌, ◌+◌, ◌-◌, sym, ap, ◌∙◌, arith}
-use Rattle.rules.specs.Wrapper.{assigns, assigned}
+use Rattle.rules.specs.Wrapper.{assigned}
 use Rattle.statements.proofs.Raising.{assigned-none, assigned-here, assigned-later}
 use Rattle.statements.proofs.frame.Frame.assigns.Goals as goal
 
