@@ -131,10 +131,10 @@ without-none [] i h = refl
 without-none (y ∷ ys) zero h = let z : ◌≡◌ {A = ℕ} 0 1 = cc in absurd (omega arith)
 without-none (y ∷ ys) (suc i) h = ap (λ l. y ∷ l) (without-none ys i h)
 
-pub get_d_some : {X : Type 0} (xs : List X) (i : ℕ) (d x : X) → Some x ≡ nth_slot xs i → get_or xs i d ≡ x
-get_d_some [] i d x h = let z : ◌≡◌ {A = ℕ} 0 1 = cc in absurd (omega arith)
-get_d_some (y ∷ ys) zero d x h = cc
-get_d_some (y ∷ ys) (suc i) d x h = get_d_some ys i d x h
+pub get_or-some : {X : Type 0} (xs : List X) (i : ℕ) (d x : X) → Some x ≡ nth_slot xs i → get_or xs i d ≡ x
+get_or-some [] i d x h = let z : ◌≡◌ {A = ℕ} 0 1 = cc in absurd (omega arith)
+get_or-some (y ∷ ys) zero d x h = cc
+get_or-some (y ∷ ys) (suc i) d x h = get_or-some ys i d x h
 
 -- what is set to what it is changes nothing
 pub updated_same : {X : Type 0} (f : ℕ → X) (level : ℕ) (x : X) → x ≡ f level → f ≡ update f level x
