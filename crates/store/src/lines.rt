@@ -1,5 +1,5 @@
 //! The lines of calls and of notes.
-ghost use Rattle.std.specs.Prelude.{◌≡◌, ◌<◌, Bool, true, length, is_ok, MatchOption, nat_lt, slice_set};
+ghost use Rattle.std.specs.Prelude.{◌≡◌, ◌<◌, Bool, true, length, is_ok, MatchOption, nat_lt, slice_index_or, slice_set};
 ghost use Rattle.std.specs.Option.{option_map};
 ghost use Rattle.rules.specs.Lists.{update, added, snoc, oldest, without};
 ghost use Rattle.rules.specs.Tables.{call_of};
@@ -31,10 +31,11 @@ impl Tables {
         look_at(&self.notes, 16, level, class)
     }
 
-    /// Takes the note at a place out of a level's line.
+    /// Takes the note at a place out of a level's line, and gives it.
     pub fn take_note(&mut self, level: usize, place: usize) -> Note
         requires level { level < 8 }
         requires within { place < length (notes_of self.old level) }
+        ensures taken { result ≡ slice_index_or (notes_of self.old level) place result }
         ensures notes { notes_of self.new ≡ update (notes_of self.old) level (without place (notes_of self.old level)) }
         ensures same { SameButNotes self.old self.new }
     {

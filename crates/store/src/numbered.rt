@@ -90,13 +90,8 @@ impl Tables {
         ensures objects { objects_of self.new ≡ update (objects_of self.old) name.home (slice_set (objects_of self.old name.home) name.number (object_of object)) }
         ensures same { SameButObjects self.old self.new }
     {
-        put_at(
-            &mut self.objects,
-            8,
-            name.home as usize,
-            name.number as usize,
-            object,
-        );
+        let place = name.number as usize;
+        put_at(&mut self.objects, 8, name.home as usize, place, object);
     }
 
     /// The future of a name, if it was made.
