@@ -1,4 +1,4 @@
-use Rattle.std.proofs.Common.{map, refl, ap, ◌∙◌, rules}
+use Rattle.std.proofs.Common.{arith, map, refl, ap, ◌∙◌, rules}
 use Rattle.std.proofs.lemmas.List.{map-set}
 use Rattle.line.specs.Slots.{elements}
 use Rattle.line.specs.Tables.{part}
@@ -10,7 +10,7 @@ pub replace_at-requires : goal.replace_at-requires
 replace_at-requires c =
     record {
       level = search rules;
-      within = within call_of c.args.place (elements (part 16 c.args.level c.args.self.now.calls)) c.requires.within;
+      within = let here = within call_of c.args.place (elements (part 16 c.args.level c.args.self.now.calls)) c.requires.within in omega (arith, here);
       packed = c.args.self.now.calls_packed;
     }
 

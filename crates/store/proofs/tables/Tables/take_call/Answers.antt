@@ -1,4 +1,4 @@
-use Rattle.std.proofs.Common.{map, refl, ap, ◌∙◌, rules}
+use Rattle.std.proofs.Common.{arith, map, refl, ap, ◌∙◌, rules}
 use Rattle.line.specs.Slots.{elements}
 use Rattle.line.specs.Tables.{part}
 use Rattle.rules.specs.Tables.{call_of}
@@ -9,7 +9,7 @@ pub take_at-requires : goal.take_at-requires
 take_at-requires c =
     record {
       level = search rules;
-      within = within call_of c.args.place (elements (part 16 c.args.level c.args.self.now.calls)) c.requires.within;
+      within = let here = within call_of c.args.place (elements (part 16 c.args.level c.args.self.now.calls)) c.requires.within in omega (arith, here);
       packed = c.args.self.now.calls_packed;
     }
 
