@@ -1,7 +1,7 @@
 -- The elements of slots that are walked over or written to. Assumes nothing.
 use Rattle.std.proofs.Common.{◌≡◌, ℕ, zero, suc, ◌+◌, ◌-◌, ◌<◌, ◌≤◌, true, List, [], ◌∷◌, ◌++◌, length, get_or, take, drop, set, is_some, Some, None, Option, sym, refl, ap, ◌∙◌, add-one, arith}
 use borrow.Rule.Slice.PartMut.{put_mid}
-use Rattle.std.specs.List.{remove}
+use Rattle.std.specs.List.{remove, prefix_len}
 use Rattle.std.proofs.lemmas.List.{at_drop_more, at_drop_all, take_rest, drop-set, take-set, drop_all, append-nil, append_assoc, length-drop}
 use Rattle.line.specs.Slots.{elements, free, compact}
 
@@ -26,6 +26,12 @@ module _ {X : Type 0} where
   free-compact [] f = refl
   free-compact (Some x ∷ slots) f = let z : ◌≡◌ {A = ℕ} 0 1 = cc in absurd (omega arith)
   free-compact (None ∷ slots) f = f
+
+  -- as many as slots are taken from the front on
+  pub count_elements : (slots : List (Option X)) → prefix_len is_some slots ≡ length (elements slots)
+  count_elements [] = refl
+  count_elements (Some x ∷ slots) = let rest = count_elements slots in omega (arith, rest)
+  count_elements (None ∷ slots) = refl
 
   pub count_within : (slots : List (Option X)) → length (elements slots) ≤ length slots
   count_within [] = omega arith

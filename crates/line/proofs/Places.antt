@@ -1,6 +1,7 @@
 -- The elements by their places. Assumes nothing.
 use Rattle.std.proofs.Common.{◌≡◌, ℕ, zero, suc, ◌<◌, ◌≤◌, true, List, [], ◌∷◌, ◌++◌, length, get_or, set, IfSome, Some, None, Option, refl, ap, arith}
 use Rattle.line.specs.Slots.{elements, nth, free, compact}
+use Rattle.line.proofs.Lines.{count_within}
 
 module _ {X : Type 0} where
   -- past the last there is none
@@ -43,6 +44,10 @@ module _ {X : Type 0} where
 
 -- where there is no gap, the slot at a place holds its element, if there is one
 module _ {X : Type 0} where
+  -- past the last slot there is none
+  pub slot_past : (slots : List (Option X)) (i : ℕ) → length slots ≤ i → nth (elements slots) i ≡ None
+  slot_past slots i h = nth_past (elements slots) i (let few = count_within slots in omega arith)
+
   free_slot : (slots : List (Option X)) (i : ℕ) (d : Option X) → free slots ≡ true → i < length slots → get_or slots i d ≡ None
   free_slot [] i d f h = absurd (omega arith)
   free_slot (Some x ∷ slots) i d f h = let z : ◌≡◌ {A = ℕ} 0 1 = cc in absurd (omega arith)

@@ -1,32 +1,33 @@
-ghost use Rattle.std.specs.Prelude.{◌≡◌, ◌<◌, true, [], ◌∷◌, ◌++◌, length, IfSome, is_ok, MatchResult, nat_lt, slice_index_or, slice_set};
-ghost use Rattle.std.specs.List.{remove};
+ghost use Rattle.std.specs.Prelude.{◌≡◌, ◌<◌, true, [], ◌∷◌, ◌++◌, length, IfSome, is_ok, is_some, MatchResult, nat_lt, slice_index_or, slice_set};
+ghost use Rattle.std.specs.List.{prefix_len, remove};
 ghost use Rattle.line.specs.Slots.{elements, compact, nth, oldest};
 
 use crate::element::Element;
 
+// The slots are lent, so `compact` is asked and ensured: who owns them keeps it.
+
+/// How many slots stand in front of the first free one.
+fn taken<E: Copy>(slots: &[Option<E>]) -> usize
+    ensures { result ≡ prefix_len is_some slots.now }
+{
+    slots.iter().take_while(|slot| slot.is_some()).count()
+}
+
 /// How many elements wait.
+#[tactic(auto, using(crate::proofs::Lines::count_elements))]
 pub fn count<E: Copy>(slots: &[Option<E>]) -> usize
     ensures { result ≡ length (elements slots.now) }
 {
-    for (i, slot) in slots.iter().enumerate() {
-        match slot {
-            None => return i,
-            Some(_) => {}
-        }
-    }
-    slots.len()
+    taken(slots)
 }
 
 /// The element at the place, if there is one.
+#[tactic(auto, using(crate::proofs::Places::slot_nth, crate::proofs::Places::slot_past))]
 pub fn at_place<E: Copy>(slots: &[Option<E>], place: usize) -> Option<E>
     requires { compact slots.now ≡ true }
     ensures { result ≡ nth (elements slots.now) place }
 {
-    if place < slots.len() {
-        slots[place]
-    } else {
-        None
-    }
+    *slots.get(place)?
 }
 
 /// Finds the oldest element with the key, and answers its place and the element. The line stays as it is.
@@ -35,14 +36,11 @@ pub fn look<E: Element + Copy>(slots: &[Option<E>], key: E::Key) -> Option<(usiz
     ensures within { IfSome result (λ f. f.0 < length (elements slots.now)) }
     ensures holds { IfSome result (λ f. (d : E) → slice_index_or (elements slots.now) f.0 d ≡ f.1) }
 {
+    // A loop, which ends at a free slot by `?`: in a chain each closure over a generic key would need a clause of its own.
     for (i, slot) in slots.iter().enumerate() {
-        match slot {
-            None => return None,
-            Some(e) => {
-                if e.key() == key {
-                    return Some((i, *e));
-                }
-            }
+        let e = (*slot)?;
+        if e.key() == key {
+            return Some((i, e));
         }
     }
     None
@@ -66,6 +64,7 @@ pub fn add<E: Copy>(slots: &mut [Option<E>], e: E) -> Result<usize, E>
 }
 
 /// Puts the element in the place of the one that stands there.
+#[tactic(auto, using(crate::proofs::Lines::count_within, crate::proofs::Lines::replace_elements, crate::proofs::Lines::replace_compact))]
 pub fn replace<E: Copy>(slots: &mut [Option<E>], place: usize, e: E)
     requires within { place < length (elements slots.old) }
     requires compact { compact slots.old ≡ true }
@@ -76,6 +75,7 @@ pub fn replace<E: Copy>(slots: &mut [Option<E>], place: usize, e: E)
 }
 
 /// Removes the element at the place, and answers it. The later ones move up, and the last slot is free again.
+#[tactic(auto, using(crate::proofs::Lines::count_within))]
 pub fn take<E: Copy>(slots: &mut [Option<E>], place: usize) -> E
     requires within { place < length (elements slots.old) }
     requires compact { compact slots.old ≡ true }

@@ -1,3 +1,4 @@
+// The slots are lent, and the type that owns them keeps `packed`: so these are functions of a table, its room and a level, and no methods.
 ghost use Rattle.std.specs.Prelude.{◌≡◌, ◌<◌, true, [], ◌∷◌, ◌++◌, length, IfSome, is_ok, MatchResult, OnSome, nat_lt, slice_index_or, slice_set};
 ghost use Rattle.std.specs.List.{remove};
 ghost use Rattle.line.specs.Slots.{elements, nth, oldest};
@@ -15,6 +16,7 @@ pub fn count_at<E: Copy>(table: &[Option<E>], room: usize, level: usize) -> usiz
 }
 
 /// The element at the place in the level's line, if there is one. Any place may be asked for.
+#[tactic(auto, using(crate::proofs::Parts::packed_at))]
 pub fn entry_at<E: Copy>(table: &[Option<E>], room: usize, level: usize, place: usize) -> Option<E>
     requires level { HasLevel room level table.now }
     requires packed { packed room table.now ≡ true }
@@ -41,6 +43,7 @@ pub fn look_at<E: Element + Copy>(
 
 /// Puts the element last in the level's line, and answers its place there. It is refused exactly when `room` elements
 /// wait there already: then it is given back, and the table is as it stood. Every other level's line stays as it was.
+#[tactic(auto, using(crate::proofs::Parts::packed_at))]
 pub fn add_at<E: Copy>(table: &mut [Option<E>], room: usize, level: usize, e: E) -> Result<usize, E>
     requires level { HasLevel room level table.old }
     requires packed { packed room table.old ≡ true }
@@ -54,6 +57,7 @@ pub fn add_at<E: Copy>(table: &mut [Option<E>], room: usize, level: usize, e: E)
 
 /// Puts the element in the place of the one that stands there in the level's line. Every other level's line stays
 /// as it was.
+#[tactic(auto, using(crate::proofs::Parts::packed_at))]
 pub fn replace_at<E: Copy>(table: &mut [Option<E>], room: usize, level: usize, place: usize, e: E)
     requires level { HasLevel room level table.old }
     requires within { place < length (elements (part room level table.old)) }
@@ -67,6 +71,7 @@ pub fn replace_at<E: Copy>(table: &mut [Option<E>], room: usize, level: usize, p
 
 /// Removes the element at the place in the level's line, and answers it. The later ones of the level move up, and
 /// every other level's line stays as it was.
+#[tactic(auto, using(crate::proofs::Parts::packed_at))]
 pub fn take_at<E: Copy>(table: &mut [Option<E>], room: usize, level: usize, place: usize) -> E
     requires level { HasLevel room level table.old }
     requires within { place < length (elements (part room level table.old)) }

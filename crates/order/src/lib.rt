@@ -100,9 +100,5 @@ pub fn join_within<O: Order>(order: &O, one: Level, other: Level, limit: Level) 
     ensures theory { Joins (O.levels order.now) }
 {
     let joined = order.join(one, other);
-    if order.flows(joined, limit) {
-        Some(joined)
-    } else {
-        None
-    }
+    order.flows(joined, limit).then_some(joined)
 }

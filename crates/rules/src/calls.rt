@@ -7,14 +7,14 @@ use crate::tables::Note;
 use crate::values::{Labelled, Name};
 
 /// A number that a party passes on, with the label that it gives it.
-#[derive(Clone, Copy)]
+#[derive(Clone, Copy, Debug, PartialEq, Eq)]
 pub struct Argument {
     pub number: i32,
     pub label: i32,
 }
 
 /// What a party asks, at the level that it bears. All numbers are as they were sent.
-#[derive(Drop)]
+#[derive(Debug, PartialEq, Eq, Drop)]
 pub enum Request {
     /// Makes an object of a class at a level.
     Make {
@@ -55,30 +55,30 @@ impl Request {
         ensures { result ≡ bearer (request_of self.now) }
     {
         match self {
-            Request::Make { bearer, .. } => *bearer,
-            Request::Post { bearer, .. } => *bearer,
-            Request::Turn { bearer, .. } => *bearer,
-            Request::Collect { bearer, .. } => *bearer,
-            Request::Take { bearer, .. } => *bearer,
+            Request::Make { bearer, .. }
+            | Request::Post { bearer, .. }
+            | Request::Turn { bearer, .. }
+            | Request::Collect { bearer, .. }
+            | Request::Take { bearer, .. } => *bearer,
         }
     }
 }
 
 /// Why a call was not carried out. Nothing is altered then.
-#[derive(Clone, Copy)]
+#[derive(Clone, Copy, Debug, PartialEq, Eq)]
 pub enum Refusal {
     /// 1: a level, a home or a label is no level.
-    NotALevel,
+    NotALevel = 1,
     /// 2: no such class or method, or another count of arguments.
-    Unknown,
+    Unknown = 2,
     /// 3: not made, or its home does not flow to the party's level.
-    NotMade,
+    NotMade = 3,
     /// 4: a rule of flow fails.
-    NoFlow,
+    NoFlow = 4,
     /// 5: no space at the party's level.
-    Full,
+    Full = 5,
     /// 6: no call in line, a future that is open still, or no note.
-    Nothing,
+    Nothing = 6,
 }
 
 impl Refusal {
@@ -86,19 +86,13 @@ impl Refusal {
     pub fn number(self) -> u8
         ensures { result ≡ refusal_number self }
     {
-        match self {
-            Refusal::NotALevel => 1,
-            Refusal::Unknown => 2,
-            Refusal::NotMade => 3,
-            Refusal::NoFlow => 4,
-            Refusal::Full => 5,
-            Refusal::Nothing => 6,
-        }
+        self as u8
     }
 }
 
 /// What a party gets back.
-#[derive(Clone, Copy)]
+// No `Result`: a refusal is one of seven things that a party gets back, each with its own kind and number in the rules.
+#[derive(Clone, Copy, Debug, PartialEq, Eq)]
 pub enum Answer {
     Refused(Refusal),
     /// make: the object's name.
@@ -117,17 +111,18 @@ pub enum Answer {
 
 impl Answer {
     /// The number that the answer returns: 0 if it was granted, 10 for a turn that is held, or the refusal's.
+    // By a match: variants that carry values have no numbers of their own.
     pub fn number(self) -> u8
         ensures { result ≡ number_of self }
     {
         match self {
             Answer::Refused(why) => why.number(),
-            Answer::Made(_) => 0,
-            Answer::Posted(_) => 0,
-            Answer::Ended => 0,
             Answer::Held => 10,
-            Answer::Collected(_) => 0,
-            Answer::Noted(_) => 0,
+            Answer::Made(_)
+            | Answer::Posted(_)
+            | Answer::Ended
+            | Answer::Collected(_)
+            | Answer::Noted(_) => 0,
         }
     }
 }

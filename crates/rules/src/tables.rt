@@ -9,18 +9,18 @@ use line::Element;
 use order::Level;
 
 /// Which part of the host made a mark.
-#[derive(Clone, Copy)]
+#[derive(Clone, Copy, Debug, PartialEq, Eq)]
 pub enum Layer {
     /// 1: a post, whose argument was withheld.
-    AtPost,
+    AtPost = 1,
     /// 2: an object's wrapper.
-    AtObject,
+    AtObject = 2,
     /// 3: a future's wrapper.
-    AtFuture,
+    AtFuture = 3,
     /// 4: a table without space.
-    AtTable,
+    AtTable = 4,
     /// 5: the statement itself.
-    AtStatement,
+    AtStatement = 5,
 }
 
 impl Layer {
@@ -28,19 +28,13 @@ impl Layer {
     pub fn number(self) -> u8
         ensures { result ≡ layer_number self }
     {
-        match self {
-            Layer::AtPost => 1,
-            Layer::AtObject => 2,
-            Layer::AtFuture => 3,
-            Layer::AtTable => 4,
-            Layer::AtStatement => 5,
-        }
+        self as u8
     }
 }
 
 /// The note that a new mark leaves: which mark, who made it, and the class, method and statement that were at work. Statements count from 1;
 /// 0 stands for a post.
-#[derive(Clone, Copy)]
+#[derive(Clone, Copy, Debug, PartialEq, Eq)]
 pub struct Note {
     pub cause: Mark,
     pub layer: Layer,
@@ -51,7 +45,8 @@ pub struct Note {
 
 /// A call in line: whom it is for, which method, its eight locals, the place of its next statement, and the number of the future that it
 /// owes an answer, if any.
-#[derive(Clone, Copy)]
+// Eight places in the value itself, here and in an object: serving a call allocates nothing.
+#[derive(Clone, Copy, Debug, PartialEq, Eq)]
 pub struct Call {
     pub receiver: Name,
     pub method: u8,
@@ -80,6 +75,7 @@ impl Element for Call {
 }
 
 /// A note waits in a line under its class.
+// An impl beside that of calls: the keys have two types, and what is the same key is a test of its own for each.
 impl Element for Note {
     type Key = u8;
 
@@ -99,7 +95,7 @@ impl Element for Note {
 }
 
 /// An object: its class, its level, and its fields; those past its class's count are not used.
-#[derive(Clone, Copy)]
+#[derive(Clone, Copy, Debug, PartialEq, Eq)]
 pub struct Object {
     pub class: u8,
     pub level: Level,
@@ -107,14 +103,15 @@ pub struct Object {
 }
 
 /// The place of an answer that is still owed, or the answer.
-#[derive(Clone, Copy)]
+// No `Option`: the rules name both states, and a table with free places holds options of futures.
+#[derive(Clone, Copy, Debug, PartialEq, Eq)]
 pub enum Future {
     Open,
     Holding(Labelled),
 }
 
 /// What happens to a future.
-#[derive(Clone, Copy)]
+#[derive(Clone, Copy, Debug, PartialEq, Eq)]
 pub enum Event {
     /// A call ends with a value for it.
     Resolve(Labelled),
@@ -136,8 +133,7 @@ impl Future {
                 *self = Future::Holding(value);
                 None
             }
-            (Future::Open, Event::Collect) => None,
-            (Future::Open, Event::Get) => None,
+            (Future::Open, Event::Collect | Event::Get) => None,
             (Future::Holding(value), _) => Some(value),
         }
     }

@@ -5,18 +5,18 @@ ghost use Rattle.rules.specs.Values.{mark_number};
 use order::Level;
 
 /// What stands in place of a value that a statement or a post could not give.
-#[derive(Clone, Copy)]
+#[derive(Clone, Copy, Debug, PartialEq, Eq)]
 pub enum Mark {
     /// 1: the value's label does not flow to where it was to go.
-    Withheld,
+    Withheld = 1,
     /// 2: the wrapper did not admit the call, or no such object may be made.
-    Refused,
+    Refused = 2,
     /// 3: a table had no space left.
-    NoSpace,
+    NoSpace = 3,
     /// 4: the future is open still, and the turn may not wait for it.
-    NotYet,
+    NotYet = 4,
     /// 5: the statement takes another kind of value.
-    WrongKind,
+    WrongKind = 5,
 }
 
 impl Mark {
@@ -24,25 +24,19 @@ impl Mark {
     pub fn number(self) -> u8
         ensures { result ≡ mark_number self }
     {
-        match self {
-            Mark::Withheld => 1,
-            Mark::Refused => 2,
-            Mark::NoSpace => 3,
-            Mark::NotYet => 4,
-            Mark::WrongKind => 5,
-        }
+        self as u8
     }
 }
 
 /// The name of an object or of a future: the level whose table it stands in, and its number there, from 0.
-#[derive(Clone, Copy, PartialEq)]
+#[derive(Clone, Copy, Debug, PartialEq, Eq)]
 pub struct Name {
     pub home: Level,
     pub number: u8,
 }
 
 /// What a variable, a future or an argument holds.
-#[derive(Clone, Copy)]
+#[derive(Clone, Copy, Debug, PartialEq, Eq)]
 pub enum Value {
     Number(i32),
     ObjectName(Name),
@@ -51,7 +45,7 @@ pub enum Value {
 }
 
 /// A value with its label: the level of all that it was made from.
-#[derive(Clone, Copy)]
+#[derive(Clone, Copy, Debug, PartialEq, Eq)]
 pub struct Labelled {
     pub value: Value,
     pub label: Level,

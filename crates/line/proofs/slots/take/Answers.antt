@@ -2,15 +2,6 @@ use Rattle.std.proofs.Common.{◌<◌, length, is_some, ap, ◌∙◌, arith, ru
 use Rattle.line.proofs.Lines.{count_within, moved_up, slot_some, slot_holds, take-elements, take-compact}
 use Rattle.line.proofs.slots.take.Goals as goal
 
-pub offset_bounds-slots-place : goal.offset_bounds-slots-place
-offset_bounds-slots-place g c = search (rules, count_within)
-
-pub bounds-slots-place : goal.bounds-slots-place
-bounds-slots-place g c = search (rules, count_within)
-
-pub offset_bounds-slots-place-2 : goal.offset_bounds-slots-place-2
-offset_bounds-slots-place-2 g c = search (rules, count_within)
-
 pub slice_bounds-rotate_left-count : goal.slice_bounds-rotate_left-count
 slice_bounds-rotate_left-count g c = search (rules, count_within)
 

@@ -2,14 +2,11 @@ use Rattle.std.proofs.Common.{◌*◌, ◌≤◌, ltb, length, ap, ◌∙◌, ar
 use borrow.Author.Rules.{scaled_fits≤}
 use Rattle.line.specs.Slots.{elements}
 use Rattle.line.specs.Tables.{part}
-use Rattle.line.proofs.Parts.{lent, lent_add, length_part, packed_at}
+use Rattle.line.proofs.Parts.{lent, lent_add, length_part}
 use Rattle.line.proofs.table.add_at.Goals as goal
 
 pub offset_bounds-table-level : goal.offset_bounds-table-level
 offset_bounds-table-level g c = let h : c.args.level * c.args.room ≤ length c.args.table.now = omega (arith, c.requires.level) in search (rules, scaled_fits≤)
-
-pub add-requires : goal.add-requires
-add-requires g c = packed_at c.args.room c.args.level c.args.table.now c.requires.packed c.requires.level
 
 pub returns : goal.returns
 returns g c =

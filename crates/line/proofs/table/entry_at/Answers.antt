@@ -1,11 +1,7 @@
 use Rattle.line.specs.Slots.{elements}
 use Rattle.line.specs.Tables.{part}
 use Rattle.line.proofs.Places.{nth-within}
-use Rattle.line.proofs.Parts.{packed_at}
 use Rattle.line.proofs.table.entry_at.Goals as goal
-
-pub at_place-requires : goal.at_place-requires
-at_place-requires g c = packed_at c.args.room c.args.level c.args.table.now c.requires.packed c.requires.level
 
 pub returns : goal.returns
 returns g c = record { found = c.at_place.ensures; within = rw c.at_place.ensures (nth-within (elements (part c.args.room c.args.level c.args.table.now)) c.args.place) }

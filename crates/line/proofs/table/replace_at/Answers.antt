@@ -1,13 +1,10 @@
 use Rattle.std.proofs.Common.{◌*◌, ◌≤◌, length, arith, rules}
 use borrow.Author.Rules.{scaled_fits≤}
-use Rattle.line.proofs.Parts.{lent, packed_at}
+use Rattle.line.proofs.Parts.{lent}
 use Rattle.line.proofs.table.replace_at.Goals as goal
 
 pub offset_bounds-table-level : goal.offset_bounds-table-level
 offset_bounds-table-level g c = let h : c.args.level * c.args.room ≤ length c.args.table.now = omega (arith, c.requires.level) in search (rules, scaled_fits≤)
-
-pub replace-requires : goal.replace-requires
-replace-requires g c = record { within = search rules; compact = packed_at c.args.room c.args.level c.args.table.now c.requires.packed c.requires.level }
 
 pub returns : goal.returns
 returns g c =
