@@ -1,6 +1,5 @@
 pub mod Fronts
 pub mod Nesting
-pub mod Drafting
 pub mod Spelling
 pub mod Lines
 pub mod Rowing

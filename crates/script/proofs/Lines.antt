@@ -20,7 +20,7 @@ cons_same p q = cc
 
 -- BYTES
 
-byte_only : (c : ℕ) (bs : List ℕ) (u : Unit {0}) (rest : List ℕ) → byte_at c bs ≡ got u rest → bs ≡ c ∷ rest
+pub byte_only : (c : ℕ) (bs : List ℕ) (u : Unit {0}) (rest : List ℕ) → byte_at c bs ≡ got u rest → bs ≡ c ∷ rest
 byte_only c [] u rest = λ e. none (cc)
 byte_only c (b ∷ bs) u rest =
     cond_both (eqb b c) _ _ (λ g. g ≡ got u rest → (b ∷ bs) ≡ c ∷ rest)

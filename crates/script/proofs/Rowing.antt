@@ -1,16 +1,16 @@
 -- The rows of a text, one by one: more fuel than bytes changes nothing.
-use Rattle.std.proofs.Common.{◌≡◌, ℕ, zero, suc, ◌+◌, ◌<◌, ◌≤◌, List, [], ◌∷◌, ◌++◌, length, Ok, Err, Result, sym, refl, ap, ◌∙◌, arith, length-append}
+use Rattle.std.proofs.Common.{◌≡◌, ℕ, zero, suc, ◌+◌, ◌<◌, ◌≤◌, List, [], ◌∷◌, ◌++◌, length, Ok, Err, Result, sym, refl, ap, ◌∙◌, arith}
 use Rattle.script.specs.declared.fault.RowFault.{RowFault}
 use Rattle.script.specs.declared.fault.BodyFault.{BodyFault}
 use Rattle.script.specs.declared.reader.Row.{Row}
 use Rattle.script.specs.declared.row.Place.{Place}
 use Rattle.script.specs.declared.row.Entry.{Entry}
-use Rattle.script.specs.Bytes.{Got, got, bad, names, bytes_at, row_at}
+use Rattle.script.specs.Bytes.{Got, got, bad, row_at}
 use Rattle.script.specs.Rows.{entry}
 use Rattle.script.specs.Layout.{row_text}
 use Rattle.script.specs.Classes.{Program}
-use Rattle.script.specs.Reading.{Draft, bind, place, take_in, finish, with_rest, entry_got, entry_from, taken, row_from, rows_from, nothing, reading}
-use Rattle.script.proofs.Lines.{none, bytes_only, Fits, row_back, row_shorter}
+use Rattle.script.specs.Reading.{Draft, bind, place, take_in, finish, with_rest, entry_got, entry_from, taken, row_from, rows_from}
+use Rattle.script.proofs.Lines.{none, Fits, row_back, row_shorter}
 
 -- what comes of a value that was bound
 pub by_bind : {X Y : Type 0} (g : Result X BodyFault) (k : X → Result Y BodyFault) (y : Y) (P : Type 0) → bind g k ≡ Ok y → ((x : X) → g ≡ Ok x → k x ≡ Ok y → P) → P
@@ -84,20 +84,8 @@ rows_feed levels line d r rest x e fit n t =
     let g : row_from levels line d (row_text r ++ rest) ≡ Ok (e, rest) = rw (row_back r rest fit, n, t) in
     rows_more levels line d (row_text r ++ rest) e rest g (rest_shorter levels line d (row_text r ++ rest) e rest g)
 
--- a row was read: what is left still tells the whole, and the next line is counted within the n bytes of the text
-pub rows_step : (levels line next n : ℕ) (d : Draft) (bs : List ℕ) (e : Draft) (rest : List ℕ) (whole : Result Program BodyFault)
-    → whole ≡ rows_in levels line d bs → line + length bs ≤ n → row_from levels line d bs ≡ Ok (e, rest) → next ≡ line + 1
-    → (whole ≡ rows_in levels next e rest) × (next + length rest ≤ n)
-rows_step levels line next n d bs e rest whole w h g l =
-    let s = rest_shorter levels line d bs e rest g in (w ∙ rows_more levels line d bs e rest g s ∙ ap (λ k. rows_in levels k e rest) (sym l), omega arith)
-
--- a fault was met
-pub rows_stop : (levels line : ℕ) (d : Draft) (bs : List ℕ) (f : BodyFault) → 0 < length bs → row_from levels line d bs ≡ Err f → rows_in levels line d bs ≡ Err f
-rows_stop levels line d [] f h g = absurd (omega arith)
-rows_stop levels line d (b ∷ bs) f h g = rw g
-
--- after the names line
-pub rows_begin : (levels line : ℕ) (d : Draft) (text bs : List ℕ) → bytes_at names text ≡ got tt bs → line ≡ 2 → d ≡ nothing
-    → (reading levels text ≡ rows_in levels line d bs) × (line + length bs ≤ length text)
-rows_begin levels line d text bs g l n =
-    let whole = ap length (bytes_only names text tt bs g) ∙ length-append names bs in (rw (g, l, n), omega arith)
+-- a row was read: what is left still tells the whole
+pub rows_step : (levels line next : ℕ) (d : Draft) (bs : List ℕ) (e : Draft) (rest : List ℕ) (whole : Result Program BodyFault)
+    → whole ≡ rows_in levels line d bs → row_from levels line d bs ≡ Ok (e, rest) → next ≡ line + 1 → whole ≡ rows_in levels next e rest
+rows_step levels line next d bs e rest whole w g l =
+    w ∙ rows_more levels line d bs e rest g (rest_shorter levels line d bs e rest g) ∙ ap (λ k. rows_in levels k e rest) (sym l)

@@ -8,7 +8,7 @@ use Rattle.std.proofs.lemmas.Bool.{cases_eq, cond_both, cond-true, cond-false, a
 use Rattle.std.proofs.lemmas.Bool.Decides.{nat_tests}
 use Rattle.std.proofs.lemmas.Str.Parse.{IsNumeralModel, numerals_by_fold, tells_all_ascii_digits}
 use Rattle.std.proofs.lemmas.Fmt.{decimal-digits_value, digits_decimal, digits_value-decimal, decimal_nonempty, first_decimal, decimal_digit}
-use Rattle.script.specs.Bytes.{Got, got, bad, NoDigit, Unlike, digits_on, magnitude_at, positive, negative, number_at}
+use Rattle.script.specs.Bytes.{Got, got, bad, NoDigit, bytes_at, digits_on, magnitude_at, positive, negative, number_at}
 use Rattle.script.proofs.Fronts.{unsigned}
 
 -- the number that digits write, after those of n
@@ -94,14 +94,14 @@ magnitude_only most (b ∷ bs) n rest big =
     (λ _ e. let z : ◌≡◌ {A = ℕ} 0 1 = cc in absurd (omega arith))
 
 -- signed numbers
-unlike_minus : (ds rest : List ℕ) → all_ascii_digits ds ≡ true → 0 < length ds → Unlike 45 (ds ++ rest)
-unlike_minus [] rest a h = absurd (omega arith)
-unlike_minus (c ∷ cs) rest a h = λ e. omega (arith, digit_low c (and_parts (is_ascii_digit c) (all_ascii_digits cs) a).0)
+no_minus : (ds rest : List ℕ) → all_ascii_digits ds ≡ true → 0 < length ds → bytes_at (45 ∷ []) (ds ++ rest) ≡ bad
+no_minus [] rest a h = absurd (omega arith)
+no_minus (c ∷ cs) rest a h = cond-false _ _ _ (ne_eqb c 45 (λ e. omega (arith, digit_low c (and_parts (is_ascii_digit c) (all_ascii_digits cs) a).0)))
 
 pub number_back : (z : ℤ) (rest : List ℕ) → SFits w32 z → NoDigit rest → number_at (signed_decimal z ++ rest) ≡ got z rest
 number_back (pos n) rest f e =
     let big : n < 2 ^ 64 = omega (arith, f.sfits) in
-    unsigned (decimal n ++ rest) (unlike_minus (decimal n) rest (digits_decimal own n big) (decimal_nonempty n big)) ∙ ap positive (magnitude_back (2 ^ 31 - 1) n rest (omega (arith, f.sfits)) big e)
+    unsigned (decimal n ++ rest) (no_minus (decimal n) rest (digits_decimal own n big) (decimal_nonempty n big)) ∙ ap positive (magnitude_back (2 ^ 31 - 1) n rest (omega (arith, f.sfits)) big e)
 number_back (negsuc n) rest f e = ap negative (magnitude_back (2 ^ 31) (suc n) rest (omega (arith, f.sfits)) (omega (arith, f.sfits)) e) ∙ cond-false _ _ _ (ne_eqb (suc n) 0 (λ z. omega arith))
 
 positive_only : (g : Got ℕ) (z : ℤ) (rest : List ℕ) → positive g ≡ got z rest → (n : ℕ) × (g ≡ got n rest) × (z ≡ pos n)

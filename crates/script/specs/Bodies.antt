@@ -1,5 +1,6 @@
 -- When the statements of a method are a body: how branches nest, and where the one R stands.
-use Rattle.std.specs.Prelude.{ℕ, zero, suc, ◌+◌, ◌-◌, Bool, true, false, cond, not, ◌&&◌, List, [], ◌∷◌, length, take, pos, nat_le, nat_lt, slice_index_or}
+use Rattle.std.specs.Prelude.{ℕ, zero, suc, ◌+◌, ◌-◌, Bool, true, false, cond, not, ◌&&◌, List, length, take, pos, nat_le, nat_lt, slice_index_or}
+use Rattle.std.specs.List.{list_all}
 use Rattle.script.specs.declared.class.Variable.TheVariants.{Local}
 use Rattle.script.specs.declared.class.Statement.{Statement}
 use Rattle.script.specs.declared.class.Statement.TheVariants.{Constant, Itself, Copy, Add, Subtract, Less, Branch, Invoke, Get, Create, Return}
@@ -62,8 +63,7 @@ nested (suc fuel) body depth at end =
 
 -- no statement is an R
 abbrev pub no_return : List Statement → Bool
-no_return [] = true
-no_return (s ∷ ss) = not (is_return s) && no_return ss
+no_return body = list_all (λ s. not (is_return s)) body
 
 -- the last statement is an R, no other is, and those before it are a range in which branches nest at most four deep: so the R is in no branch
 abbrev pub stands : List Statement → Bool

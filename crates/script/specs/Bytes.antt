@@ -1,5 +1,5 @@
 -- What stands at the front of some bytes: a number, a letter, a row.
-use Rattle.std.specs.Prelude.{◌≡◌, ℕ, ◌+◌, ◌-◌, ◌*◌, ◌^◌, false, cond, List, [], ◌∷◌, ℤ, pos, neg_ℤ, codes, ◌==◌, nat_le}
+use Rattle.std.specs.Prelude.{◌≡◌, ℕ, ◌+◌, ◌-◌, ◌*◌, ◌^◌, false, cond, List, [], ◌∷◌, ℤ, pos, neg_ℤ, codes, Ok, Err, Result, ◌==◌, nat_le}
 use Rattle.std.specs.Char.{is_ascii_digit}
 use Rattle.script.specs.declared.reader.Letter.TheVariants.{N, T, C, A, D, L, I, M, G, O, R}
 use Rattle.script.specs.declared.reader.Kind.{Kind}
@@ -20,11 +20,6 @@ then bad k = bad
 abbrev pub NoDigit : List ℕ → Type 0
 NoDigit [] = Unit {0}
 NoDigit (b ∷ bs) = is_ascii_digit b ≡ false
-
--- bs does not begin with c
-abbrev pub Unlike : ℕ → List ℕ → Type 0
-Unlike c [] = Unit {0}
-Unlike c (b ∷ bs) = b ≡ c → ⊥
 
 -- the digits that bs begins with, after those of n: a zero has none after it, and the whole is at most `most`
 abbrev pub digits_on : ℕ → ℕ → List ℕ → Got ℕ
@@ -72,6 +67,11 @@ kind_at (b ∷ bs) =
     (cond (b == 73) (got (Statement I) bs) (cond (b == 77) (got (Statement M) bs)
     (cond (b == 71) (got (Statement G) bs) (cond (b == 79) (got (Statement O) bs)
     (cond (b == 82) (got (Statement R) bs) bad))))))))))))
+
+-- r is the kind that the letter b tells, whatever follows it
+abbrev pub Tells : {E : Type 0} → ℕ → Result Kind E → Type 0
+Tells b (Ok k) = (bs : List ℕ) → kind_at (b ∷ bs) ≡ got k bs
+Tells b (Err e) = (bs : List ℕ) → kind_at (b ∷ bs) ≡ bad
 
 -- a space (32) and a number
 abbrev pub column_at : List ℕ → Got ℤ

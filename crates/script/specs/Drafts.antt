@@ -27,7 +27,7 @@ abbrev pub Does : {X Y : Type 0} → Result X LoadError → Result Y BodyFault �
 Does (Ok _) told x = told ≡ Ok x
 Does (Err e) told x = Failed e told
 
--- r gave what is told, as `as-told` views it
+-- r gave what is told, as `view` sees it
 abbrev pub Gives : {X Y : Type 0} → (X → Y) → Result X LoadError → Result Y BodyFault → Type 0
 Gives view (Ok x) told = told ≡ Ok (view x)
 Gives view (Err e) told = Failed e told

@@ -1,5 +1,5 @@
 -- The layout of script texts: the text that rows have, the rows that a program has, and when a program is well-formed.
-use Rattle.std.specs.Prelude.{ℕ, suc, ◌+◌, ◌^◌, Bool, true, ◌&&◌, ltb, List, [], ◌∷◌, ◌++◌, map, length, ℤ, pos, negsuc, Some, None, Option, nat_le, nat_lt}
+use Rattle.std.specs.Prelude.{ℕ, suc, ◌+◌, ◌^◌, Bool, true, ◌&&◌, List, [], ◌∷◌, ◌++◌, map, length, ℤ, pos, negsuc, Some, None, Option, nat_le, nat_lt}
 use Rattle.std.specs.Fmt.{signed_decimal}
 use Rattle.script.specs.declared.class.Variable.{Variable}
 use Rattle.script.specs.declared.class.Variable.TheVariants.{Local, Field as OfObject}
@@ -206,7 +206,7 @@ method_formed levels fields m =
 abbrev pub class_formed : ℕ → Class → Bool
 class_formed levels c =
     nat_le (length c.fields) 8 && (nat_le (length c.methods) 4 && (nat_lt 0 (length c.fields + length c.methods)
-    && (every (λ label. ltb label levels) c.fields && every (method_formed levels (length c.fields)) c.methods)))
+    && (every (λ label. nat_lt label levels) c.fields && every (method_formed levels (length c.fields)) c.methods)))
 
 -- at most eight classes
 abbrev pub well_formed : ℕ → Program → Bool

@@ -2,14 +2,14 @@
 use order::Level;
 
 /// What a statement reads or assigns: one of the call's eight locals, or a field of the running object, by number.
-#[derive(Clone, Copy)]
+#[derive(Clone, Copy, Debug, PartialEq, Eq)]
 pub enum Variable {
     Local(u8),
     Field(u8),
 }
 
 /// The variables that a call passes on, in order; at most four.
-#[derive(Clone, Copy)]
+#[derive(Clone, Copy, Debug, PartialEq, Eq)]
 pub enum Arguments {
     Empty,
     One(Variable),
@@ -19,7 +19,7 @@ pub enum Arguments {
 }
 
 /// One statement of a method's body.
-#[derive(Clone, Copy)]
+#[derive(Clone, Copy, Debug, PartialEq, Eq)]
 pub enum Statement {
     /// `N`: `to` becomes a number.
     Constant {

@@ -42,10 +42,7 @@ impl Draft {
     fn methods_begun(&self) -> usize
         ensures { result ≡ (place (draft_of self.now)).methods }
     {
-        match self.heading {
-            Some(_) => self.methods.len() + 1,
-            None => self.methods.len(),
-        }
+        self.methods.len() + usize::from(self.heading.is_some())
     }
 
     /// Where the next row stands.
@@ -126,14 +123,6 @@ impl Draft {
         if self.place().has_begun() {
             self.close_class()?;
         }
-        let Draft {
-            heap: _,
-            classes,
-            fields: _,
-            methods: _,
-            heading: _,
-            statements: _,
-        } = self;
-        Ok(classes)
+        Ok(self.classes)
     }
 }

@@ -19,9 +19,8 @@ impl Heading {
     pub fn check(&self, statements: &[Statement]) -> Result<(), BodyFault>
         ensures { result ≡ (if stands statements.now then Ok tt else Err (Body self.now.line)) }
     {
-        if is_body(statements) {
-            return Ok(());
-        }
-        Err(BodyFault::Body { line: self.line })
+        is_body(statements)
+            .then_some(())
+            .ok_or(BodyFault::Body { line: self.line })
     }
 }

@@ -14,5 +14,6 @@ mod loading;
 pub mod program;
 pub mod reader;
 mod row;
+mod show;
 
 pub use loading::load;

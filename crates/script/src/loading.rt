@@ -1,5 +1,5 @@
 //! The whole way from a text's bytes to a program or to its first fault.
-ghost use Rattle.std.specs.Prelude.{◌≡◌, ◌+◌, ◌^◌, ◌<◌, ◌∷◌, length, Ok, Err, MatchResult};
+ghost use Rattle.std.specs.Prelude.{◌≡◌, ◌+◌, Ok, Err, MatchResult};
 ghost use Rattle.script.specs.declared.fault.ByteFault.TheVariants.{Names};
 ghost use Rattle.script.specs.declared.fault.RowFault.TheVariants.{Bytes};
 ghost use Rattle.script.specs.Bytes.{got, bad, names, bytes_at};
@@ -30,7 +30,6 @@ fn open(text: &[u8]) -> Result<Reader<'_>, RowFault>
 
 /// What the next line says at its place.
 fn next_entry(reader: &mut Reader<'_>, levels: u8, place: Place) -> Result<Entry, RowFault>
-    requires { reader.old.line + 1 < 2 ^ 64 }
     ensures reads { MatchResult result (λ x. entry_from levels reader.old.line place (left reader.old) ≡ Ok (x, left reader.new)) (λ f. entry_from levels reader.old.line place (left reader.old) ≡ Err f) }
     ensures ended { Ended result reader.old reader.new }
 {
@@ -41,7 +40,6 @@ fn next_entry(reader: &mut Reader<'_>, levels: u8, place: Place) -> Result<Entry
 
 /// Reads the next line, and takes in what it says.
 fn read_row(reader: &mut Reader<'_>, levels: u8, draft: &mut Draft) -> Result<(), LoadError>
-    requires { reader.old.line + 1 < 2 ^ 64 }
     ensures reads { Does result (row_from levels reader.old.line (draft_of draft.old) (left reader.old)) (draft_of draft.new, left reader.new) }
     ensures ended { Ended result reader.old reader.new }
 {

@@ -1,13 +1,14 @@
 //! The first layer: a text's bytes, read front to back.
-ghost use Rattle.std.specs.Prelude.{◌≡◌, ℕ, ◌+◌, ◌-◌, ◌*◌, ◌^◌, ◌<◌, ◌≤◌, [], ◌∷◌, length, IfOk, MatchBool, MatchOption, MatchResult, ◌==◌};
-ghost use Rattle.script.specs.declared.fault.ByteFault.TheVariants.{Names};
-ghost use Rattle.script.specs.Bytes.{got, bad, magnitude_at, number_at, kind_at, byte_at, bytes_at, column_at, row_at, names, NoDigit, Unlike};
-ghost use Rattle.script.specs.Readers.{left, Next, Reads, Kept, Ended};
+ghost use Rattle.std.specs.Prelude.{◌≡◌, ℕ, ◌+◌, ◌^◌, ◌<◌, ◌≤◌, ◌∷◌, length, IfOk, MatchBool, MatchOption, MatchResult, ◌==◌};
+ghost use Rattle.script.specs.declared.fault.ByteFault.TheVariants.{Names, Form};
+ghost use Rattle.script.specs.Bytes.{got, bad, magnitude_at, number_at, kind_at, byte_at, bytes_at, column_at, row_at, names, NoDigit, Tells};
 
 use crate::fault::ByteFault;
+use std::error::Error;
+use std::fmt;
 
 /// The letter of a statement.
-#[derive(Clone, Copy)]
+#[derive(Clone, Copy, Debug, PartialEq, Eq)]
 pub enum Letter {
     N,
     T,
@@ -23,15 +24,52 @@ pub enum Letter {
 }
 
 /// A row's kind, which its letter tells: a field, the head of a method, or a statement.
-#[derive(Clone, Copy)]
+#[derive(Clone, Copy, Debug, PartialEq, Eq)]
 pub enum Kind {
     Field,
     Parameters,
     Statement(Letter),
 }
 
+/// A byte that is no letter of a row.
+#[derive(Clone, Copy, Debug, PartialEq, Eq)]
+pub struct UnknownLetter(pub u8);
+
+impl TryFrom<u8> for Kind {
+    type Error = UnknownLetter;
+
+    ghost try_from_gives = { Tells };
+
+    fn try_from(letter: u8) -> Result<Kind, UnknownLetter> {
+        match letter {
+            b'F' => Ok(Kind::Field),
+            b'P' => Ok(Kind::Parameters),
+            b'N' => Ok(Kind::Statement(Letter::N)),
+            b'T' => Ok(Kind::Statement(Letter::T)),
+            b'C' => Ok(Kind::Statement(Letter::C)),
+            b'A' => Ok(Kind::Statement(Letter::A)),
+            b'D' => Ok(Kind::Statement(Letter::D)),
+            b'L' => Ok(Kind::Statement(Letter::L)),
+            b'I' => Ok(Kind::Statement(Letter::I)),
+            b'M' => Ok(Kind::Statement(Letter::M)),
+            b'G' => Ok(Kind::Statement(Letter::G)),
+            b'O' => Ok(Kind::Statement(Letter::O)),
+            b'R' => Ok(Kind::Statement(Letter::R)),
+            _ => Err(UnknownLetter(letter)),
+        }
+    }
+}
+
+impl fmt::Display for UnknownLetter {
+    fn fmt<W: fmt::Write>(&self, f: &mut fmt::Formatter<W>) -> fmt::Result {
+        write!(f, "no row has the letter {}", self.0)
+    }
+}
+
+impl Error for UnknownLetter {}
+
 /// A row's columns as they stand.
-#[derive(Clone, Copy)]
+#[derive(Clone, Copy, Debug, PartialEq, Eq)]
 pub struct Row {
     pub class: i32,
     pub method: i32,
@@ -45,29 +83,34 @@ pub struct Row {
     pub f: i32,
 }
 
-/// A place in a text that is lent, with the line that it is on.
+/// The bytes of a text that are left to read, and the line that they begin on.
+///
+/// It keeps as a fact that the lines can be counted to the end, even where every byte that is left ends one.
 #[derive(Drop)]
 pub struct Reader<'a> {
-    text: &'a [u8],
-    place: usize,
+    rest: &'a [u8],
     line: usize,
+    ghost countable: { line + length rest.now < 2 ^ 64 },
 }
 
 impl<'a> Reader<'a> {
+    ghost use Rattle.script.specs.Readers.{left};
+
     /// A reader at the start of a text.
     pub fn new(text: &'a [u8]) -> Reader<'a>
         ensures left { left result ≡ text.now }
         ensures line { result.line ≡ 1 }
     {
         Reader {
-            text,
-            place: 0,
+            rest: text,
             line: 1,
         }
     }
 }
 
 impl Reader<'_> {
+    ghost use Rattle.script.specs.Readers.{left, Reads, Kept, Ended};
+
     /// The line that is read next, from 1.
     pub(crate) fn line(&self) -> usize
         ensures { result ≡ self.now.line }
@@ -79,35 +122,14 @@ impl Reader<'_> {
     pub fn is_at_end(&self) -> bool
         ensures { result ≡ (length (left self.now) == 0) }
     {
-        match self.peek() {
-            Some(_) => false,
-            None => true,
-        }
+        self.rest.is_empty()
     }
 
-    /// The next byte, if there is one. The place stays.
-    fn peek(&self) -> Option<u8>
-        ensures { MatchOption result (left self.now ≡ []) (λ b. Next b self.now) }
+    /// The fault of a line that has not the form of a row.
+    fn misformed(&self) -> ByteFault
+        ensures { result ≡ Form self.now.line }
     {
-        if self.place >= self.text.len() {
-            return None;
-        }
-        Some(self.text[self.place])
-    }
-
-    /// Goes past the next byte if `b` is what it is.
-    fn passes(&mut self, b: u8) -> bool
-        ensures reads { MatchBool result (left self.old ≡ b ∷ left self.new) ((left self.new ≡ left self.old) × Unlike b (left self.old)) }
-        ensures kept { Kept self.old self.new }
-    {
-        let Some(next) = self.peek() else {
-            return false;
-        };
-        if next != b {
-            return false;
-        }
-        self.place += 1;
-        true
+        ByteFault::Form { line: self.line }
     }
 
     /// The value of the next byte if that is a digit, which is then passed.
@@ -115,11 +137,10 @@ impl Reader<'_> {
         ensures reads { MatchOption result ((left self.new ≡ left self.old) × NoDigit (left self.old)) (λ d. (d < 10) × (left self.old ≡ (48 + d) ∷ left self.new)) }
         ensures kept { Kept self.old self.new }
     {
-        let b = self.peek()?;
-        if b < b'0' || b > b'9' {
+        let (b @ b'0'..=b'9', rest) = self.rest.split_first()? else {
             return None;
-        }
-        self.place += 1;
+        };
+        self.rest = rest;
         Some(u32::from(b - b'0'))
     }
 
@@ -130,18 +151,16 @@ impl Reader<'_> {
         ensures reads { Reads result (magnitude_at most (left self.old)) self.old self.new }
         ensures kept { Kept self.old self.new }
     {
-        let Some(mut n) = self.digit() else {
-            return Err(ByteFault::Form { line: self.line });
-        };
+        let mut n = self.digit().ok_or(self.misformed())?;
         while let Some(d) = self.digit() {
             // A zero before other digits, or too large.
             if n == 0 || n > most / 10 {
-                return Err(ByteFault::Form { line: self.line });
+                return Err(self.misformed());
             }
             n = n * 10 + d;
         }
         if n > most {
-            return Err(ByteFault::Form { line: self.line });
+            return Err(self.misformed());
         }
         Ok(n)
     }
@@ -151,11 +170,12 @@ impl Reader<'_> {
         ensures reads { Reads result (number_at (left self.old)) self.old self.new }
         ensures kept { Kept self.old self.new }
     {
-        if self.passes(b'-') {
+        if self.spells(b"-") {
             let n = self.magnitude(0x8000_0000)?;
             if n == 0 {
-                return Err(ByteFault::Form { line: self.line });
+                return Err(self.misformed());
             }
+            // A cast, here and below: `try_from` would be longer by an error that cannot come.
             return Ok((-i64::from(n)) as i32);
         }
         let n = self.magnitude(0x7fff_ffff)?;
@@ -167,26 +187,10 @@ impl Reader<'_> {
         ensures reads { Reads result (kind_at (left self.old)) self.old self.new }
         ensures kept { Kept self.old self.new }
     {
-        let Some(b) = self.peek() else {
-            return Err(ByteFault::Form { line: self.line });
-        };
-        let kind = match b as char {
-            'F' => Kind::Field,
-            'P' => Kind::Parameters,
-            'N' => Kind::Statement(Letter::N),
-            'T' => Kind::Statement(Letter::T),
-            'C' => Kind::Statement(Letter::C),
-            'A' => Kind::Statement(Letter::A),
-            'D' => Kind::Statement(Letter::D),
-            'L' => Kind::Statement(Letter::L),
-            'I' => Kind::Statement(Letter::I),
-            'M' => Kind::Statement(Letter::M),
-            'G' => Kind::Statement(Letter::G),
-            'O' => Kind::Statement(Letter::O),
-            'R' => Kind::Statement(Letter::R),
-            _ => return Err(ByteFault::Form { line: self.line }),
-        };
-        self.place += 1;
+        let misformed = self.misformed();
+        let (letter, rest) = self.rest.split_first().ok_or(misformed)?;
+        let kind = Kind::try_from(*letter).map_err(|_| misformed)?;
+        self.rest = rest;
         Ok(kind)
     }
 
@@ -195,10 +199,7 @@ impl Reader<'_> {
         ensures reads { Reads result (byte_at b (left self.old)) self.old self.new }
         ensures kept { Kept self.old self.new }
     {
-        if self.passes(b) {
-            return Ok(());
-        }
-        Err(ByteFault::Form { line: self.line })
+        self.spells(&[b]).then_some(()).ok_or(self.misformed())
     }
 
     /// One space.
@@ -223,19 +224,15 @@ impl Reader<'_> {
         ensures reads { MatchBool result (bytes_at letters.now (left self.old) ≡ got tt (left self.new)) ((bytes_at letters.now (left self.old) ≡ bad) × (left self.new ≡ left self.old)) }
         ensures kept { Kept self.old self.new }
     {
-        let start = self.place;
-        for b in letters {
-            if !self.passes(*b) {
-                self.place = start;
-                return false;
-            }
-        }
+        let Some(rest) = self.rest.strip_prefix(letters) else {
+            return false;
+        };
+        self.rest = rest;
         true
     }
 
     /// The end of a line.
     fn line_feed(&mut self) -> Result<(), ByteFault>
-        requires { self.old.line + 1 < 2 ^ 64 }
         ensures reads { Reads result (byte_at 10 (left self.old)) self.old self.new }
         ensures ended { Ended result self.old self.new }
     {
@@ -246,7 +243,6 @@ impl Reader<'_> {
 
     /// The first line, which names the columns.
     pub(crate) fn names_line(&mut self) -> Result<(), ByteFault>
-        requires { self.old.line + 1 < 2 ^ 64 }
         ensures reads { MatchResult result (λ _. bytes_at names (left self.old) ≡ got tt (left self.new)) (λ e. (bytes_at names (left self.old) ≡ bad) × (e ≡ Names self.old.line)) }
         ensures ended { Ended result self.old self.new }
     {
@@ -259,7 +255,6 @@ impl Reader<'_> {
 
     /// The ten columns of a row and the end of its line.
     pub(crate) fn row(&mut self) -> Result<Row, ByteFault>
-        requires { self.old.line + 1 < 2 ^ 64 }
         ensures reads { Reads result (row_at (left self.old)) self.old self.new }
         ensures ended { Ended result self.old self.new }
     {

@@ -35,7 +35,7 @@ pub struct Entry {
 fn holds(column: i32, n: usize) -> bool
     ensures { result ≡ is column n }
 {
-    column >= 0 && column as usize == n
+    usize::try_from(column) == Ok(n)
 }
 
 impl Place {
@@ -103,10 +103,10 @@ impl Place {
             return Err(RowFault::Sequence { line });
         }
         let begins_class = self.next_class(row);
-        match row.item(levels, self.fields) {
-            Some(item) => Ok(Entry { begins_class, item }),
-            None => Err(RowFault::Range { line }),
-        }
+        let item = row
+            .item(levels, self.fields)
+            .ok_or(RowFault::Range { line })?;
+        Ok(Entry { begins_class, item })
     }
 }
 
@@ -114,10 +114,7 @@ impl Place {
 fn number_below(column: i32, limit: u8) -> Option<u8>
     ensures { result ≡ below column limit }
 {
-    if column < 0 || column >= i32::from(limit) {
-        return None;
-    }
-    Some(column as u8)
+    u8::try_from(column).ok().filter(|n| *n < limit)
 }
 
 /// A variable of a class of so many fields: 0 to 7 are locals, 8 to 15 fields.
@@ -125,14 +122,10 @@ fn variable_of(column: i32, fields: usize) -> Option<Variable>
     ensures { result ≡ variable fields column }
 {
     let number = number_below(column, 16)?;
-    if number < 8 {
-        return Some(Variable::Local(number));
+    match number.checked_sub(8) {
+        None => Some(Variable::Local(number)),
+        Some(field) => (usize::from(field) < fields).then_some(Variable::Field(field)),
     }
-    let field = number - 8;
-    if field as usize >= fields {
-        return None;
-    }
-    Some(Variable::Field(field))
 }
 
 /// A variable, or none where the column is −1.
@@ -142,8 +135,7 @@ fn optional_of(column: i32, fields: usize) -> Option<Option<Variable>>
     if column == -1 {
         return Some(None);
     }
-    let variable = variable_of(column, fields)?;
-    Some(Some(variable))
+    variable_of(column, fields).map(Some)
 }
 
 /// The arguments in four columns, where there is no gap.
@@ -188,57 +180,43 @@ impl Row {
     fn two_variables(&self, fields: usize) -> Option<(Variable, Variable)>
         ensures { result ≡ two_variables fields self.now }
     {
-        if !self.leaves_from_b() {
-            return None;
-        }
         let to = variable_of(self.to, fields)?;
         let a = variable_of(self.a, fields)?;
-        Some((to, a))
+        self.leaves_from_b().then_some((to, a))
     }
 
     /// What two variables make for a third.
     fn three_variables(&self, fields: usize) -> Option<(Variable, Variable, Variable)>
         ensures { result ≡ three_variables fields self.now }
     {
-        if !self.leaves_from_c() {
-            return None;
-        }
         let to = variable_of(self.to, fields)?;
         let a = variable_of(self.a, fields)?;
         let b = variable_of(self.b, fields)?;
-        Some((to, a, b))
+        self.leaves_from_c().then_some((to, a, b))
     }
 
     fn constant(&self, fields: usize) -> Option<Statement>
         ensures { result ≡ constant fields self.now }
     {
-        if !self.leaves_from_b() {
-            return None;
-        }
         let to = variable_of(self.to, fields)?;
-        Some(Statement::Constant { to, number: self.a })
+        self.leaves_from_b()
+            .then_some(Statement::Constant { to, number: self.a })
     }
 
     fn itself(&self, fields: usize) -> Option<Statement>
         ensures { result ≡ itself fields self.now }
     {
-        if self.a != 0 || !self.leaves_from_b() {
-            return None;
-        }
         let to = variable_of(self.to, fields)?;
-        Some(Statement::Itself { to })
+        (self.a == 0 && self.leaves_from_b()).then_some(Statement::Itself { to })
     }
 
     fn branch(&self, fields: usize) -> Option<Statement>
         ensures { result ≡ branch fields self.now }
     {
-        if self.to != 0 || !self.leaves_from_d() {
-            return None;
-        }
         let guard = variable_of(self.a, fields)?;
         let first = number_below(self.b, 33)?;
         let second = number_below(self.c, 33)?;
-        Some(Statement::Branch {
+        (self.to == 0 && self.leaves_from_d()).then_some(Statement::Branch {
             guard,
             first,
             second,
@@ -273,23 +251,18 @@ impl Row {
     fn creation(&self, levels: u8, fields: usize) -> Option<Statement>
         ensures { result ≡ creation levels fields self.now }
     {
-        if !self.leaves_from_c() {
-            return None;
-        }
         let to = variable_of(self.to, fields)?;
         let class = number_below(self.a, 8)?;
         let level = number_below(self.b, levels)?;
-        Some(Statement::Create { to, class, level })
+        self.leaves_from_c()
+            .then_some(Statement::Create { to, class, level })
     }
 
     fn reply(&self, fields: usize) -> Option<Statement>
         ensures { result ≡ reply fields self.now }
     {
-        if self.to != 0 || !self.leaves_from_b() {
-            return None;
-        }
         let value = variable_of(self.a, fields)?;
-        Some(Statement::Return { value })
+        (self.to == 0 && self.leaves_from_b()).then_some(Statement::Return { value })
     }
 
     /// The statement that the columns tell, in a class of so many fields, under a count of levels.
@@ -299,28 +272,25 @@ impl Row {
         match letter {
             Letter::N => self.constant(fields),
             Letter::T => self.itself(fields),
-            Letter::C => {
-                let (to, from) = self.two_variables(fields)?;
-                Some(Statement::Copy { to, from })
-            }
-            Letter::A => {
-                let (to, left, right) = self.three_variables(fields)?;
-                Some(Statement::Add { to, left, right })
-            }
-            Letter::D => {
-                let (to, left, right) = self.three_variables(fields)?;
-                Some(Statement::Subtract { to, left, right })
-            }
-            Letter::L => {
-                let (to, left, right) = self.three_variables(fields)?;
-                Some(Statement::Less { to, left, right })
-            }
+            Letter::C => self
+                .two_variables(fields)
+                .map(|(to, from)| Statement::Copy { to, from }),
+            Letter::A => self
+                .three_variables(fields)
+                .map(|(to, left, right)| Statement::Add { to, left, right }),
+            Letter::D => self.three_variables(fields).map(|(to, left, right)| Statement::Subtract {
+                to,
+                left,
+                right,
+            }),
+            Letter::L => self
+                .three_variables(fields)
+                .map(|(to, left, right)| Statement::Less { to, left, right }),
             Letter::I => self.branch(fields),
             Letter::M => self.invocation(fields),
-            Letter::G => {
-                let (to, future) = self.two_variables(fields)?;
-                Some(Statement::Get { to, future })
-            }
+            Letter::G => self
+                .two_variables(fields)
+                .map(|(to, future)| Statement::Get { to, future }),
             Letter::O => self.creation(levels, fields),
             Letter::R => self.reply(fields),
         }
@@ -329,21 +299,15 @@ impl Row {
     fn label(&self, levels: u8) -> Option<Item>
         ensures { result ≡ label levels self.now }
     {
-        if !self.leaves_from_b() {
-            return None;
-        }
         let label = number_below(self.a, levels)?;
-        Some(Item::Label { label })
+        self.leaves_from_b().then_some(Item::Label { label })
     }
 
     fn head(&self) -> Option<Item>
         ensures { result ≡ head self.now }
     {
-        if self.to != 0 || !self.leaves_from_b() {
-            return None;
-        }
         let parameters = number_below(self.a, 5)?;
-        Some(Item::Head { parameters })
+        (self.to == 0 && self.leaves_from_b()).then_some(Item::Head { parameters })
     }
 
     /// What the columns say, where each is in its range.
@@ -353,10 +317,9 @@ impl Row {
         match self.kind {
             Kind::Field => self.label(levels),
             Kind::Parameters => self.head(),
-            Kind::Statement(letter) => {
-                let statement = self.statement(levels, fields, letter)?;
-                Some(Item::Action { statement })
-            }
+            Kind::Statement(letter) => self
+                .statement(levels, fields, letter)
+                .map(|statement| Item::Action { statement }),
         }
     }
 }

@@ -1,20 +1,8 @@
 -- How far a text's ending is, line by line.
-use Rattle.std.proofs.Common.{◌≡◌, ℕ, suc, ◌+◌, ◌-◌, ◌≤◌, Bool, true, false, cond, eqb, List, [], ◌∷◌, length, take, drop, is_some, Some, None, codes, Decides, sym, refl, ap, ◌∙◌, ⊎_elim, arith, length-drop, rules}
-use Rattle.std.specs.Str.{bytes_eq}
+use Rattle.std.proofs.Common.{◌≡◌, ℕ, suc, ◌+◌, ◌-◌, ◌≤◌, true, false, not, cond, eqb, List, [], ◌∷◌, length, drop, is_some, None, sym, refl, ap, ◌∙◌, ⊎_elim, arith, length-drop}
 use Rattle.std.proofs.str.Laws.{order}
-use Rattle.std.proofs.lemmas.Slice.Eq.{bytes_eq-Decides}
-use Rattle.std.proofs.lemmas.List.{drop_all, drop-drop, at_drop_all}
-use Rattle.script_cases.specs.declared.table.Ending.{Ending}
-use Rattle.script_cases.specs.declared.table.Ending.TheVariants.{Whole, Short}
-use Rattle.script_cases.specs.Lines.{to_feed, line_of, after_line, ending_of, to_ending, text_length, parted, parted_at, text_parted}
-
--- what `==` answers is the test of the bytes
-pub tested : (xs ys : List ℕ) (r : Bool) → Decides r (xs ≡ ys) → r ≡ bytes_eq xs ys
-tested xs ys r h = search (rules, bytes_eq-Decides)
-
--- the ending by two tests
-pub ending_told : (line : List ℕ) (a b : Bool) → a ≡ bytes_eq line (codes "end") → b ≡ bytes_eq line (codes "cut") → cond a (Some Whole) (cond b (Some Short) None) ≡ ending_of line
-ending_told line a b p q = λ k. cond (p k) (Some Whole) (cond (q k) (Some Short) None)
+use Rattle.std.proofs.lemmas.List.{drop_all, drop-drop}
+use Rattle.script_cases.specs.Lines.{to_feed, line_of, after_line, ending_of, to_ending}
 
 -- as many bytes as a line and its line feed take up
 abbrev line_size : List ℕ → ℕ
@@ -24,7 +12,7 @@ line_size bs = length bs - length (after_line bs)
 within_line : (bs : List ℕ) → to_ending false bs ≡ line_size bs + to_ending true (after_line bs)
 within_line [] = refl
 within_line (b ∷ bs) =
-    elim (eqb b 10) as (λ t. 1 + to_ending t bs ≡ (suc (length bs) - length (drop (cond t 0 (1 + to_feed bs) + 1) (b ∷ bs))) + to_ending true (drop (cond t 0 (1 + to_feed bs) + 1) (b ∷ bs))) [
+    elim (eqb b 10) as (λ t. 1 + to_ending t bs ≡ (suc (length bs) - length (drop (cond (not t) (1 + to_feed bs) 0 + 1) (b ∷ bs))) + to_ending true (drop (cond (not t) (1 + to_feed bs) 0 + 1) (b ∷ bs))) [
       | true ↦ omega arith
       | false ↦
           let on : 1 + to_feed bs + 1 ≡ suc (to_feed bs + 1) = omega arith in
@@ -33,31 +21,18 @@ within_line (b ∷ bs) =
     ]
 
 -- a line that says no ending belongs to the text
-pub line_passed : (bs : List ℕ) → ending_of (line_of bs) ≡ None → to_ending true bs ≡ line_size bs + to_ending true (after_line bs)
+line_passed : (bs : List ℕ) → ending_of (line_of bs) ≡ None → to_ending true bs ≡ line_size bs + to_ending true (after_line bs)
 line_passed [] none = refl
 line_passed (b ∷ bs) none = ap (λ o. cond (is_some o) 0 (1 + to_ending (eqb b 10) bs)) none ∙ within_line (b ∷ bs)
 
--- at a line that says an ending the text is over
-ended : (bs : List ℕ) (e : Ending) → ending_of (line_of bs) ≡ Some e → to_ending true bs ≡ 0
-ended [] e is = refl
-ended (b ∷ bs) e is = ap (λ o. cond (is_some o) 0 (1 + to_ending (eqb b 10) bs)) is
-
--- where n bytes have been passed
-abbrev pub Passed : ℕ → List ℕ → Type 0
-Passed n lines = to_ending true lines ≡ n + to_ending true (drop n lines)
-
-pub text_found : (lines : List ℕ) (n : ℕ) (e : Ending) → Passed n lines → ending_of (line_of (drop n lines)) ≡ Some e → text_parted lines ≡ Some (take (text_length e n) lines, after_line (drop n lines))
-text_found lines n e passed is =
-    let at : to_ending true lines ≡ n = omega (arith, passed, ended (drop n lines) e is) in
-    ap (λ m. parted_at m lines) at ∙ ap (parted n lines) is
-
-pub text_lost : (lines : List ℕ) (n : ℕ) → Passed n lines → length lines ≤ n → text_parted lines ≡ None
-text_lost lines n passed le =
-    let at : to_ending true lines ≡ n = omega (arith, passed, at_drop_all (to_ending true) lines n le) in
-    ap (λ m. parted_at m lines) at ∙ at_drop_all (λ rest. parted n lines (ending_of (line_of rest))) lines n le
+-- the rest stands at the end of the lines, and what was passed before it are lines that say no ending
+pub record Passed (lines rest : List ℕ) : Type 0 where
+  pub within : length rest ≤ length lines
+  pub back : drop (length lines - length rest) lines ≡ rest
+  pub far : to_ending true lines ≡ (length lines - length rest) + to_ending true rest
 
 -- a place is known by what is left after it
-pub place_of-rest : (n : ℕ) (lines : List ℕ) → drop (length lines - length (drop n lines)) lines ≡ drop n lines
+place_of-rest : (n : ℕ) (lines : List ℕ) → drop (length lines - length (drop n lines)) lines ≡ drop n lines
 place_of-rest n lines =
     let left = length-drop n lines in
     ⊎_elim
@@ -65,20 +40,14 @@ place_of-rest n lines =
     (λ le. let at : length lines ≤ length lines - length (drop n lines) = omega arith in drop_all _ lines at ∙ sym (drop_all n lines le))
     (order n (length lines))
 
-pub passed_more : (lines : List ℕ) (n : ℕ) (rest : List ℕ) → n ≤ length lines → Passed n lines → rest ≡ after_line (drop n lines) → ending_of (line_of (drop n lines)) ≡ None → Passed (length lines - length rest) lines
-passed_more lines n rest le passed is none =
-    let far = to_feed (drop n lines) + 1 in
-    let deep = is ∙ drop-drop far n lines in
-    let left : drop (length lines - length rest) lines ≡ after_line (drop n lines) =
-    ap (λ l. drop (length lines - length l) lines) deep ∙ place_of-rest (n + far) lines ∙ sym (drop-drop far n lines)
-    in
-    omega (
-      arith,
-      le,
-      passed,
-      line_passed (drop n lines) none,
-      ap (to_ending true) left,
-      ap length is,
-      length-drop n lines,
-      length-drop far (drop n lines),
-    )
+pub passed_more : (lines rest next : List ℕ) → Passed lines rest → next ≡ after_line rest → ending_of (line_of rest) ≡ None → Passed lines next
+passed_more lines rest next passed is none =
+    let n = length lines - length rest in
+    let far = to_feed rest + 1 in
+    let deep : next ≡ drop (n + far) lines = is ∙ ap (drop far) (sym passed.back) ∙ drop-drop far n lines in
+    let long = ap length is ∙ length-drop far rest in
+    record {
+      within = omega (arith, long, passed.within);
+      back = ap (λ l. drop (length lines - length l) lines) deep ∙ place_of-rest (n + far) lines ∙ sym deep;
+      far = omega (arith, long, passed.within, passed.far, line_passed rest none, ap length is, ap (to_ending true) is);
+    }

@@ -1,2 +1,1 @@
-mod Feeds
 mod Endings

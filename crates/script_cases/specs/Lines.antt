@@ -1,13 +1,13 @@
 -- Where a line ends, and where a case's text ends.
 use Rattle.std.specs.Prelude.{ℕ, ◌+◌, ◌-◌, Bool, true, cond, ◌&&◌, List, [], ◌∷◌, take, drop, is_some, Some, None, codes, Option, ◌==◌}
+use Rattle.std.specs.List.{position_or_len}
 use Rattle.std.specs.Str.{bytes_eq}
 use Rattle.script_cases.specs.declared.table.Ending.{Ending}
 use Rattle.script_cases.specs.declared.table.Ending.TheVariants.{Whole, Short}
 
 -- how many bytes stand before the first line feed; all of them where there is none
 abbrev pub to_feed : List ℕ → ℕ
-to_feed [] = 0
-to_feed (b ∷ bs) = cond (b == 10) 0 (1 + to_feed bs)
+to_feed bs = position_or_len (λ b. b == 10) bs
 
 -- the first line, without its line feed
 abbrev pub line_of : List ℕ → List ℕ

@@ -23,7 +23,7 @@ fn input(rt: &HostRuntime) -> io::Result<Vec<u8>> {
 
 /// What became of a case's text.
 fn judge(heap: Global, case: &Case<'_>) -> Verdict {
-    Verdict::of(&script::load(heap, &Ladder {}, case.text))
+    Verdict::from(&script::load(heap, &Ladder {}, case.text))
 }
 
 /// Prints a line for each case of the table.

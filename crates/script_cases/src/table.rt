@@ -2,7 +2,7 @@
 ghost use Rattle.std.specs.Prelude.{◌≡◌, ◌<◌, ◌≤◌, length, IfOk, Some, None, MatchResult};
 ghost use Rattle.script_cases.specs.Lines.{to_feed, line_of, after_line, ending_of, text_length, text_parted};
 
-use anyhow::anyhow;
+use anyhow::{Context, bail};
 use std::alloc::Global;
 
 /// The byte that ends a line.
@@ -47,12 +47,7 @@ fn line_length(bytes: &[u8]) -> usize
     ensures value { result ≡ to_feed bytes.now }
     ensures within { result ≤ length bytes.now }
 {
-    for (i, b) in bytes.iter().enumerate() {
-        if *b == LINE_FEED {
-            return i;
-        }
-    }
-    bytes.len()
+    bytes.iter().take_while(|b| **b != LINE_FEED).count()
 }
 
 /// The first line without its line feed, and what stands after that.
@@ -63,15 +58,9 @@ fn cut_line(bytes: &[u8]) -> Cut<'_>
     ensures shorter { length result.rest.now < length bytes.now }
 {
     let length = line_length(bytes);
-    if length == bytes.len() {
-        return Cut {
-            front: bytes,
-            rest: &bytes[length..],
-        };
-    }
     Cut {
-        front: &bytes[0..length],
-        rest: &bytes[length + 1..],
+        front: &bytes[..length],
+        rest: bytes.get(length + 1..).unwrap_or(&[]),
     }
 }
 
@@ -79,13 +68,11 @@ fn cut_line(bytes: &[u8]) -> Cut<'_>
 fn read_ending(line: &[u8]) -> Option<Ending>
     ensures { result ≡ ending_of line.now }
 {
-    if line == b"end".as_slice() {
-        return Some(Ending::Whole);
+    match line {
+        b"end" => Some(Ending::Whole),
+        b"cut" => Some(Ending::Short),
+        _ => None,
     }
-    if line == b"cut".as_slice() {
-        return Some(Ending::Short);
-    }
-    None
 }
 
 /// The text at the front of the lines, and what stands after the line `end` or `cut` that ends it.
@@ -93,18 +80,19 @@ fn cut_text(lines: &[u8]) -> anyhow::Result<Cut<'_>>
     ensures cases { MatchResult result (λ c. text_parted lines.now ≡ Some (c.front.now, c.rest.now)) (λ _. text_parted lines.now ≡ None) }
     ensures shorter { IfOk result (λ c. length c.rest.now ≤ length lines.now) }
 {
-    let mut length = 0;
-    while length < lines.len() {
-        let line = cut_line(&lines[length..]);
-        match read_ending(line.front) {
-            Some(ending) => return Ok(Cut {
-                front: &lines[0..ending.text_length(length)],
+    let mut rest = lines;
+    while !rest.is_empty() {
+        let line = cut_line(rest);
+        if let Some(ending) = read_ending(line.front) {
+            let before = lines.len() - rest.len();
+            return Ok(Cut {
+                front: &lines[..ending.text_length(before)],
                 rest: line.rest,
-            }),
-            None => length = lines.len() - line.rest.len(),
+            });
         }
+        rest = line.rest;
     }
-    Err(anyhow!("a case of the table has no end"))
+    bail!("a case of the table has no end")
 }
 
 /// The cases of a table.
@@ -113,9 +101,10 @@ pub fn cases(heap: Global, table: &[u8]) -> anyhow::Result<Vec<Case<'_>>> {
     let mut rest = table;
     while !rest.is_empty() {
         let head = cut_line(rest);
-        let Some(name) = head.front.strip_prefix(b"case ") else {
-            return Err(anyhow!("a line of the table stands in no case"));
-        };
+        let name = head
+            .front
+            .strip_prefix(b"case ")
+            .context("a line of the table stands in no case")?;
         let body = cut_text(head.rest)?;
         cases.push(Case {
             name,

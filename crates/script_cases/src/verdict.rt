@@ -6,7 +6,7 @@ use script::program::Program;
 use std::fmt;
 
 /// What became of a text: how much a program has, or where the fault is, or that there was no memory.
-#[derive(Clone, Copy)]
+#[derive(Clone, Copy, Debug, PartialEq, Eq)]
 pub enum Verdict {
     Loads {
         classes: usize,
@@ -21,11 +21,10 @@ pub enum Verdict {
     NoMemory,
 }
 
-impl Verdict {
-    /// The verdict on what loading answered.
-    pub fn of(outcome: &Result<Program, LoadError>) -> Verdict
-        ensures { Judges outcome.now result }
-    {
+impl From<&Result<Program, LoadError>> for Verdict {
+    ghost from_gives = { λ outcome verdict. Judges outcome.now verdict };
+
+    fn from(outcome: &Result<Program, LoadError>) -> Verdict {
         match outcome {
             Ok(program) => Verdict::loads(program),
             Err(LoadError::Fault(fault)) => Verdict::Told {
@@ -36,23 +35,24 @@ impl Verdict {
             Err(LoadError::Memory) => Verdict::NoMemory,
         }
     }
+}
 
+impl Verdict {
     /// The verdict on a text that loaded: how many classes there are, how many methods in all of them, and how many statements in all of those.
     fn loads(program: &Program) -> Verdict
         ensures { Counts program.now result }
     {
-        let mut methods = 0usize;
-        let mut statements = 0usize;
-        for class in program.classes() {
-            methods = methods.saturating_add(class.methods.len());
-            for method in &class.methods {
-                statements = statements.saturating_add(method.statements.len());
-            }
-        }
+        let classes = program.classes();
         Verdict::Loads {
-            classes: program.classes().len(),
-            methods,
-            statements,
+            classes: classes.len(),
+            methods: classes.iter().fold(
+                0,
+                |sum: usize, class| sum.saturating_add(class.methods.len()),
+            ),
+            statements: classes.iter().flat_map(|class| &class.methods).fold(
+                0,
+                |sum: usize, method| sum.saturating_add(method.statements.len()),
+            ),
         }
     }
 }

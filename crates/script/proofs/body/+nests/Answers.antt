@@ -1,29 +1,22 @@
-use Rattle.std.proofs.Common.{sym, refl, ◌∙◌, inl, inr, arith}
-use Rattle.script.proofs.Nesting.{branch_never, branch_first, plain_first}
+use Rattle.std.proofs.Common.{sym, ap, ◌∙◌, ◌∷◌, arith}
+use Rattle.script.proofs.Nesting.{fits_plain, fits_cut}
+use Rattle.script.proofs.body.+nests.Goals.{then-not-nests-via-then-not-nests, then-not-nests-via-else-not-nests+then-not-nests-2}
 use Rattle.script.proofs.body.+nests.Goals as goal
 
-pub returns-then-depth-eq0 : goal.returns-then-depth-eq0
-returns-then-depth-eq0 t c =
-    sym (c.loop-at.invariant ∙ branch_never c.args.body.now _ _ _ _ _ c.in-Branch.guard c.in-Branch.is c.loop-at-test.true (inl c.if-depth-eq0.true))
+pub loop-statement-preserved : goal.loop-statement-preserved
+loop-statement-preserved t c = c.loop-statement.invariant ∙ fits_plain c.args.depth _ _ _ c.in-Some.ensures.cases.0 c.in_default-statement.not-Branch
 
-pub returns-then-first-second : goal.returns-then-first-second
-returns-then-first-second t c =
-    sym (c.loop-at.invariant ∙ branch_never c.args.body.now _ _ _ _ _ c.in-Branch.guard c.in-Branch.is c.loop-at-test.true (inr (omega arith)))
+pub loop-statement-preserved-in-Branch : goal.loop-statement-preserved-in-Branch
+loop-statement-preserved-in-Branch t c =
+    let e = fits_cut c.args.depth c.loop-statement.left.now c.in-Some.rest.now c.in-Branch.guard _ _ (c.in-Some.ensures.cases.0 ∙ ap (λ s. s ∷ c.in-Some.rest.now) c.in-Branch.is)
+    _ _ _ _ _ _ (omega arith) c.from.ensures c.from-in-Branch.ensures c.in-Some-split_at_checked.ensures.cases c.in-Some-split_at_checked-2.ensures.cases in
+    c.loop-statement.invariant ∙ e ∙ rw (sym c.if-not-nests.ensures, sym c.if-not-nests-2.ensures)
 
 pub returns-then-not-nests : goal.returns-then-not-nests
 returns-then-not-nests t c =
-    let e = branch_first c.args.body.now c.args.depth c.loop-at.at c.args.end _ _ c.in-Branch.guard c.in-Branch.is c.loop-at-test.true (omega arith) (omega arith) in
-    sym (c.loop-at.invariant ∙ e ∙ rw (sym c.if-not-nests.ensures))
-
-pub returns-then-not-nests-2 : goal.returns-then-not-nests-2
-returns-then-not-nests-2 t c =
-    let e = branch_first c.args.body.now c.args.depth c.loop-at.at c.args.end _ _ c.in-Branch.guard c.in-Branch.is c.loop-at-test.true (omega arith) (omega arith) in
-    sym (c.loop-at.invariant ∙ e ∙ rw (sym c.if-not-nests.ensures, sym c.if-not-nests-2.ensures))
-
-pub loop-at-preserved-in-Branch : goal.loop-at-preserved-in-Branch
-loop-at-preserved-in-Branch t c =
-    let e = branch_first c.args.body.now c.args.depth c.loop-at.at c.args.end _ _ c.in-Branch.guard c.in-Branch.is c.loop-at-test.true (omega arith) (omega arith) in
-    c.loop-at.invariant ∙ e ∙ rw (sym c.if-not-nests.ensures, sym c.if-not-nests-2.ensures)
-
-pub loop-at-preserved : goal.loop-at-preserved
-loop-at-preserved t c = c.loop-at.invariant ∙ plain_first c.args.body.now c.args.depth c.loop-at.at c.args.end _ refl c.in_default.not-Branch c.loop-at-test.true
+    let e = fits_cut c.args.depth c.loop-statement.left.now c.in-Some.rest.now c.in-Branch.guard _ _ (c.in-Some.ensures.cases.0 ∙ ap (λ s. s ∷ c.in-Some.rest.now) c.in-Branch.is)
+    _ _ _ _ _ _ (omega arith) c.from.ensures c.from-in-Branch.ensures c.in-Some-split_at_checked.ensures.cases c.in-Some-split_at_checked-2.ensures.cases in
+    sym (c.loop-statement.invariant ∙ e ∙ elim c.then-not-nests.branch [
+      | then-not-nests-via-then-not-nests w ↦ rw (sym w.if-not-nests.ensures)
+      | then-not-nests-via-else-not-nests+then-not-nests-2 w ↦ rw (sym w.if-not-nests.ensures, sym w.if-not-nests-2.ensures)
+    ])

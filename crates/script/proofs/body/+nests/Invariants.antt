@@ -1,13 +1,13 @@
-use Rattle.std.proofs.Common.{◌≡◌, ◌-◌}
-use Rattle.script.specs.Bodies.{nested}
+use Rattle.std.proofs.Common.{◌≡◌, length}
+use Rattle.script.proofs.Nesting.{fits}
 use Rattle.script.proofs.body.+nests.Given as goal
 
 abbrev pub decreases-nests : goal.decreases-nests
 decreases-nests l = l.depth
 
 -- what is left tells of the whole
-abbrev pub invariant-loop-at : goal.invariant-loop-at
-invariant-loop-at l = nested (l.end - l.start) l.body l.depth l.start l.end ≡ nested (l.end - l.at) l.body l.depth l.at l.end
+abbrev pub invariant-loop-statement : goal.invariant-loop-statement
+invariant-loop-statement l = fits l.depth l.statements ≡ fits l.depth l.left
 
-abbrev pub decreases-loop-at : goal.decreases-loop-at
-decreases-loop-at l = l.end - l.at
+abbrev pub decreases-loop-statement : goal.decreases-loop-statement
+decreases-loop-statement l = length l.left
