@@ -11,6 +11,7 @@ use order::{Level, Order};
 use script::class::Statement;
 
 /// Where a statement leads.
+// Three cases, which no `Option` has.
 #[derive(Clone, Copy)]
 pub enum Next {
     /// To the statement after it and its branches.
@@ -63,12 +64,7 @@ pub fn pass(body: &[Statement], from: usize, at: usize, context: Level) -> Next
     requires { at + 1 + branch_rows (slice_index_or body.now at idle) ≤ length body.now }
     ensures { result ≡ passes from (slice_index_or body.now at idle) at context }
 {
-    if let Statement::Branch {
-        guard: _,
-        first,
-        second,
-    } = body[at]
-    {
+    if let Statement::Branch { first, second, .. } = body[at] {
         let start = at + 1;
         let middle = start + first as usize;
         let end = middle + second as usize;

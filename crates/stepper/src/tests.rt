@@ -65,6 +65,6 @@ fn finds_a_statement_in_a_branch_in_a_branch(rt: HostRuntime) -> Result<(), Fail
             assert!(rt; finder.steps == 3);
             Ok(())
         },
-        Outcome::Held { at: _ } => Err(Fail::new("held")),
+        Outcome::Held { .. } => Err(Fail::new("held")),
     }
 }

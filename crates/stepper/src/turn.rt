@@ -5,10 +5,12 @@ ghost use Rattle.rules.specs.Turns.{exec};
 ghost use Rattle.stepper.specs.Halves.{ends, StopsWithin, TwoHalves};
 
 use crate::machine::{Machine, Next};
+use arrayvec::ArrayVec;
 use order::{Level, Order};
 use script::class::Statement;
 
 /// How a turn came out.
+// No `Option<usize>`: its `None` would not say that the call has ended, and the rules tell the two apart by name.
 #[derive(Clone, Copy)]
 pub enum Outcome {
     /// The call has ended.
@@ -18,7 +20,7 @@ pub enum Outcome {
 }
 
 /// Statements that are still to be carried out, and their context.
-#[derive(Clone, Copy)]
+#[derive(Clone, Copy, Default)]
 struct Range {
     at: usize,
     end: usize,
@@ -28,30 +30,19 @@ struct Range {
 /// How deep branches nest in a body.
 const DEPTH: usize = 4;
 
-/// No statements.
-const NOTHING: Range = Range {
-    at: 0,
-    end: 0,
-    context: 0,
-};
-
 /// How many of the statements after one belong to its two branches.
 fn rows_of(statement: Statement) -> usize
     ensures { result ≡ branch_rows statement }
 {
     match statement {
-        Statement::Branch {
-            guard: _,
-            first,
-            second,
-        } => first as usize + second as usize,
+        Statement::Branch { first, second, .. } => first as usize + second as usize,
         _ => 0,
     }
 }
 
 /// Carries out a turn: the statements of a body from the first to the last, in a context.
 ///
-/// The range at hand stands in variables, and the ranges that its branches stand in on a stack.
+/// The ranges that the branch at hand stands in wait for its end, the innermost last.
 pub fn run<O: Order, M: Machine>(
     order: &O,
     machine: &mut M,
@@ -70,42 +61,31 @@ pub fn run<O: Order, M: Machine>(
     ensures lent { M.Machine.lent machine.new ≡ M.Machine.lent machine.old }
     ensures still { M.Machine.ready (O.Order.levels order.now) machine.new }
 {
-    let mut stack = [NOTHING; DEPTH];
-    let mut depth = 0;
-    let mut at = 0;
-    let mut end = body.len();
-    let mut context = level;
-    let outcome = loop {
-        if at < end {
-            let after = at + 1 + rows_of(body[at]);
-            match machine.step(order, at, context) {
-                Next::On => at = after,
-                Next::Enter {
-                    from,
-                    to,
-                    context: inner,
-                } => {
-                    stack[depth] = Range {
-                        at: after,
-                        end,
+    let mut waiting = ArrayVec::<Range, DEPTH>::new();
+    let mut range = Range {
+        at: 0,
+        end: body.len(),
+        context: level,
+    };
+    loop {
+        if range.at < range.end {
+            let after = range.at + 1 + rows_of(body[range.at]);
+            match machine.step(order, range.at, range.context) {
+                Next::On => range.at = after,
+                Next::Enter { from, to, context } => {
+                    waiting.push(Range { at: after, ..range });
+                    range = Range {
+                        at: from,
+                        end: to,
                         context,
                     };
-                    depth += 1;
-                    at = from;
-                    end = to;
-                    context = inner;
                 }
-                Next::Hold => break Outcome::Held { at },
+                Next::Hold => break Outcome::Held { at: range.at },
             }
-        } else if depth == 0 {
-            break Outcome::Ended;
+        } else if let Some(outer) = waiting.pop() {
+            range = outer;
         } else {
-            depth -= 1;
-            let range = stack[depth];
-            at = range.at;
-            end = range.end;
-            context = range.context;
+            break Outcome::Ended;
         }
-    };
-    outcome
+    }
 }
