@@ -1,25 +1,24 @@
 -- What the tables in memory hold, as the rules see it.
-use Rattle.std.specs.Prelude.{◌≡◌, ℕ, List, map}
+use Rattle.std.specs.Prelude.{◌≡◌, ℕ, List}
 use Rattle.rules.specs.declared.tables.Note.{Note}
 use Rattle.rules.specs.declared.tables.Future.{Future}
 use Rattle.rules.specs.declared.tables.Call.{Call as StoredCall}
 use Rattle.rules.specs.Lists.{Placed}
 use Rattle.rules.specs.Tables.{Object, object_of, Call, call_of, State}
-use Rattle.line.specs.Slots.{elements}
-use Rattle.line.specs.Tables.{part}
 use Rattle.store.specs.declared.tables.Tables.{Tables}
+use Rattle.store.specs.Lines.{lines_of, found_of}
 
 abbrev pub objects_of : Tables → ℕ → List Object
-objects_of t level = map object_of (elements (part 8 level t.objects))
+objects_of t = lines_of object_of t.objects
 
 abbrev pub futures_of : Tables → ℕ → List Future
-futures_of t level = elements (part 32 level t.futures)
+futures_of t = lines_of (λ f. f) t.futures
 
 abbrev pub calls_of : Tables → ℕ → List Call
-calls_of t level = map call_of (elements (part 16 level t.calls))
+calls_of t = lines_of call_of t.calls
 
 abbrev pub notes_of : Tables → ℕ → List Note
-notes_of t level = elements (part 16 level t.notes)
+notes_of t = lines_of (λ n. n) t.notes
 
 abbrev pub state_of : Tables → State
 state_of t = record { objects = objects_of t; futures = futures_of t; calls = calls_of t; notes = notes_of t }
@@ -45,9 +44,6 @@ pub record SameButNotes (t u : Tables) : Type 0 where
   pub futures : u.futures ≡ t.futures
   pub calls : u.calls ≡ t.calls
 
--- what a look finds
-abbrev pub found_note : ℕ × Note → Placed Note
-found_note p = record { place = p.0; element = p.1 }
-
+-- the call that a look finds
 abbrev pub found_call : ℕ × StoredCall → Placed Call
-found_call p = record { place = p.0; element = call_of p.1 }
+found_call = found_of call_of

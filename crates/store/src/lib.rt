@@ -1,7 +1,7 @@
 //! The four tables of the host, in memory, and what is done to them.
 #![tactic(auto)]
 
+pub mod kept;
 pub mod lines;
-pub mod numbered;
-mod places;
+pub mod table;
 pub mod tables;

@@ -1,120 +1,97 @@
-//! The lines of calls and of notes.
-ghost use Rattle.std.specs.Prelude.{◌≡◌, ◌<◌, Bool, true, length, is_ok, MatchOption, nat_lt, slice_index_or, slice_set};
+//! What is done to a table's lines.
+ghost use Rattle.std.specs.Prelude.{◌≡◌, Bool, ◌*◌, ◌<◌, [], length, None, if◌then◌else◌, is_ok, nat_lt, slice_set, MatchResult};
 ghost use Rattle.std.specs.Option.{option_map};
-ghost use Rattle.rules.specs.Lists.{update, added, snoc, oldest, without};
-ghost use Rattle.rules.specs.Tables.{call_of};
-ghost use Rattle.rules.specs.Calling.{is_for, is_of};
-ghost use Rattle.store.specs.States.{notes_of, calls_of, found_call, found_note, SameButCalls, SameButNotes};
+ghost use Rattle.rules.specs.Lists.{update, added, nth, oldest, without};
+ghost use Rattle.store.specs.Lines.{lines_of, found_of};
 
-use crate::places::{drop_at, put_at};
-use crate::tables::Tables;
-use line::{add_at, count_at, look_at, replace_at, take_at};
-use order::Level;
-use rules::tables::{Call, Note};
+use crate::kept::Kept;
+use crate::table::Table;
+use line::{Element, add_at, count_at, entry_at, look_at, replace_at, take_at};
+use order::{Level, Order};
 use rules::values::Name;
 
-impl Tables {
-    /// Adds a note to a level's line; a full line loses it.
-    pub fn file(&mut self, level: usize, note: Note)
-        requires { level < 8 }
-        ensures notes { notes_of self.new ≡ update (notes_of self.old) level (added 16 (notes_of self.old level) note) }
-        ensures same { SameButNotes self.old self.new }
+// `level < 8` is asked, and `Level` is no type that says it: an order's law says it of its levels, and an order may be asked of any number.
+impl<E: Kept, const ROOM: usize, const SLOTS: usize> Table<E, ROOM, SLOTS> {
+    /// A table with nothing in it.
+    pub(crate) fn new() -> Self
+        requires { SLOTS ≡ 8 * ROOM }
+        ensures { lines_of E.told result ≡ λ level. [] }
     {
-        let _ = add_at(&mut self.notes, 16, level, note);
-    }
-
-    /// The oldest note of a class in a level's line, and its place.
-    pub fn oldest_note(&self, level: usize, class: u8) -> Option<(usize, Note)>
-        requires { level < 8 }
-        ensures { option_map found_note result ≡ oldest (is_of class) (notes_of self.now level) }
-    {
-        look_at(&self.notes, 16, level, class)
-    }
-
-    /// Takes the note at a place out of a level's line, and gives it.
-    pub fn take_note(&mut self, level: usize, place: usize) -> Note
-        requires level { level < 8 }
-        requires within { place < length (notes_of self.old level) }
-        ensures taken { result ≡ slice_index_or (notes_of self.old level) place result }
-        ensures notes { notes_of self.new ≡ update (notes_of self.old) level (without place (notes_of self.old level)) }
-        ensures same { SameButNotes self.old self.new }
-    {
-        take_at(&mut self.notes, 16, level, place)
-    }
-
-    /// Takes the note at a place out of a level's line, if one stands there.
-    pub fn drop_note(&mut self, level: usize, place: usize)
-        requires { level < 8 }
-        ensures notes { notes_of self.new ≡ update (notes_of self.old) level (without place (notes_of self.old level)) }
-        ensures same { SameButNotes self.old self.new }
-    {
-        drop_at(&mut self.notes, 16, level, place);
-    }
-
-    /// How many calls wait in a level's line.
-    pub fn count_calls(&self, level: Level) -> usize
-        requires { level < 8 }
-        ensures { result ≡ length (calls_of self.now level) }
-    {
-        count_at(&self.calls, 16, level as usize)
-    }
-
-    /// Adds a call to a level's line, and tells whether there was a place for it; if not, nothing changes.
-    pub fn add_call(&mut self, level: usize, call: Call) -> bool
-        requires { level < 8 }
-        ensures accepts { result ≡ nat_lt (length (calls_of self.old level)) 16 }
-        ensures calls { calls_of self.new ≡ update (calls_of self.old) level (added 16 (calls_of self.old level) (call_of call)) }
-        ensures same { SameButCalls self.old self.new }
-    {
-        match add_at(&mut self.calls, 16, level, call) {
-            Ok(_) => true,
-            Err(_) => false,
+        Table {
+            slots: [None; SLOTS],
         }
     }
 
-    /// The oldest call for an object in a level's line, and its place.
-    pub fn oldest_call(&self, level: usize, receiver: Name) -> Option<(usize, Call)>
+    /// How many elements stand at a level.
+    #[tactic(auto, using(crate::proofs::Lining::length_lines))]
+    pub fn count(&self, level: usize) -> usize
         requires { level < 8 }
-        ensures { option_map found_call result ≡ oldest (is_for receiver) (calls_of self.now level) }
+        ensures { result ≡ length (lines_of E.told self.now level) }
     {
-        look_at(&self.calls, 16, level, receiver)
+        count_at(&self.slots, ROOM, level)
     }
 
-    /// Puts a call in the place of another.
-    pub fn replace_call(&mut self, level: usize, place: usize, call: Call)
-        requires level { level < 8 }
-        requires within { place < length (calls_of self.old level) }
-        ensures calls { calls_of self.new ≡ update (calls_of self.old) level (slice_set (calls_of self.old level) place (call_of call)) }
-        ensures same { SameButCalls self.old self.new }
+    /// The element at a place of a level, if one stands there. Any level and any place may be asked for.
+    #[tactic(auto, using(crate::proofs::Lining::nth_lines, crate::proofs::Lining::nth_past))]
+    pub fn get(&self, level: usize, place: usize) -> Option<E>
+        ensures { option_map E.told result ≡ nth (lines_of E.told self.now level) place }
     {
-        replace_at(&mut self.calls, 16, level, place, call);
+        if level >= 8 {
+            return None;
+        }
+        entry_at(&self.slots, ROOM, level, place)
     }
 
-    /// Puts a call in the place of another, if one stands there.
-    pub fn put_call(&mut self, level: usize, place: usize, call: Call)
+    /// The element of a name, if it was made and its home flows to a level.
+    pub fn find<O: Order>(&self, order: &O, level: Level, name: Name) -> Option<E>
+        ensures { option_map E.told result ≡ (if (O.Order.levels order.now).flow name.home level then nth (lines_of E.told self.now name.home) name.number else None) }
+    {
+        let home = order.flows(name.home, level).then_some(name.home)?;
+        self.get(home as usize, name.number as usize)
+    }
+
+    /// Adds an element to a level's line, and answers its place. A full line stays as it is, and gives the element back.
+    #[tactic(auto, using(crate::proofs::Lining::length_lines))]
+    pub fn add(&mut self, level: usize, e: E) -> Result<usize, E>
         requires { level < 8 }
-        ensures calls { calls_of self.new ≡ update (calls_of self.old) level (slice_set (calls_of self.old level) place (call_of call)) }
-        ensures same { SameButCalls self.old self.new }
+        ensures accepts { is_ok result ≡ nat_lt (length (lines_of E.told self.old level)) ROOM }
+        ensures answers { MatchResult result (λ place. place ≡ length (lines_of E.told self.old level)) (λ back. back ≡ e) }
+        ensures lines { lines_of E.told self.new ≡ update (lines_of E.told self.old) level (added ROOM (lines_of E.told self.old level) (E.told e)) }
     {
-        put_at(&mut self.calls, 16, level, place, call);
+        add_at(&mut self.slots, ROOM, level, e)
     }
 
-    /// Takes the call at a place out of a level's line.
-    pub fn take_call(&mut self, level: usize, place: usize)
-        requires level { level < 8 }
-        requires within { place < length (calls_of self.old level) }
-        ensures calls { calls_of self.new ≡ update (calls_of self.old) level (without place (calls_of self.old level)) }
-        ensures same { SameButCalls self.old self.new }
-    {
-        let _ = take_at(&mut self.calls, 16, level, place);
-    }
-
-    /// Takes the call at a place out of a level's line, if one stands there.
-    pub fn drop_call(&mut self, level: usize, place: usize)
+    /// The oldest element with a key in a level's line, and its place: what the rules find there by any test that what
+    /// they have for an element passes exactly if the element has the key.
+    #[tactic(auto, using(crate::proofs::Lining::oldest_lines))]
+    pub fn oldest(&self, level: usize, key: E::Key) -> Option<(usize, E)>
+    where
+        E: Element,
         requires { level < 8 }
-        ensures calls { calls_of self.new ≡ update (calls_of self.old) level (without place (calls_of self.old level)) }
-        ensures same { SameButCalls self.old self.new }
+        ensures { (test : E.Told → Bool) → ((e : E) → E.same (E.key_of e) key ≡ test (E.told e)) → option_map (found_of E.told) result ≡ oldest test (lines_of E.told self.now level) }
     {
-        drop_at(&mut self.calls, 16, level, place);
+        look_at(&self.slots, ROOM, level, key)
+    }
+
+    /// Puts an element in the place of another. Nothing happens where none stands there.
+    #[tactic(auto, using(crate::proofs::Lining::lines_put, crate::proofs::Lining::none_put))]
+    pub fn put(&mut self, level: usize, place: usize, e: E)
+        requires { level < 8 }
+        ensures { lines_of E.told self.new ≡ update (lines_of E.told self.old) level (slice_set (lines_of E.told self.old level) place (E.told e)) }
+    {
+        if entry_at(&self.slots, ROOM, level, place).is_some() {
+            replace_at(&mut self.slots, ROOM, level, place, e);
+        }
+    }
+
+    /// Takes the element at a place out of a level's line, and gives it. Nothing happens where none stands there.
+    #[tactic(auto, using(crate::proofs::Lining::lines_taken, crate::proofs::Lining::none_taken, crate::proofs::Lining::taken_was, crate::proofs::Lining::nth_lines))]
+    pub fn take(&mut self, level: usize, place: usize) -> Option<E>
+        requires { level < 8 }
+        ensures taken { option_map E.told result ≡ nth (lines_of E.told self.old level) place }
+        ensures lines { lines_of E.told self.new ≡ update (lines_of E.told self.old) level (without place (lines_of E.told self.old level)) }
+    {
+        entry_at(&self.slots, ROOM, level, place)?;
+        Some(take_at(&mut self.slots, ROOM, level, place))
     }
 }
