@@ -1,5 +1,4 @@
 mod Calls
 pub mod Every
-pub mod Looking
 mod Masks
 pub mod Objects

@@ -10,43 +10,28 @@ use script::class::{Class, Method, Statement, Variable};
 fn find_class(classes: &[Class], class: u8) -> Option<&Class>
     ensures { MatchOption result (class_at (classes_of classes.now) class ≡ record { fields = []; methods = [] }) (λ c. class_at (classes_of classes.now) class ≡ class_of c.now) }
 {
-    if (class as usize) < classes.len() {
-        Some(&classes[class as usize])
-    } else {
-        None
-    }
+    classes.get(class as usize)
 }
 
 /// The declared labels of a class's fields; none where the program lacks the class.
 pub fn fields_of(classes: &[Class], class: u8) -> &[Level]
     ensures { result.now ≡ (class_at (classes_of classes.now) class).fields }
 {
-    match find_class(classes, class) {
-        Some(found) => found.fields.as_slice(),
-        None => &[],
-    }
+    find_class(classes, class).map_or(&[], |found| found.fields.as_slice())
 }
 
 /// The methods of a class; none where the program lacks the class.
 fn methods_of(classes: &[Class], class: u8) -> &[Method]
     ensures { map method_of result.now ≡ (class_at (classes_of classes.now) class).methods }
 {
-    match find_class(classes, class) {
-        Some(found) => found.methods.as_slice(),
-        None => &[],
-    }
+    find_class(classes, class).map_or(&[], |found| found.methods.as_slice())
 }
 
 /// The method of a class, by number, if the class has it.
 pub fn find_method(classes: &[Class], class: u8, method: u8) -> Option<&Method>
     ensures { MatchOption result (method_at (classes_of classes.now) class (Some method) ≡ None) (λ m. method_at (classes_of classes.now) class (Some method) ≡ Some (method_of m.now)) }
 {
-    let methods = methods_of(classes, class);
-    if (method as usize) < methods.len() {
-        Some(&methods[method as usize])
-    } else {
-        None
-    }
+    methods_of(classes, class).get(method as usize)
 }
 
 /// The variable that a statement assigns, if any.
@@ -54,16 +39,15 @@ pub fn assigned_by(statement: Statement) -> Option<Variable>
     ensures { result ≡ target statement }
 {
     match statement {
-        Statement::Constant { to, .. } => Some(to),
-        Statement::Itself { to } => Some(to),
-        Statement::Copy { to, .. } => Some(to),
-        Statement::Add { to, .. } => Some(to),
-        Statement::Subtract { to, .. } => Some(to),
-        Statement::Less { to, .. } => Some(to),
-        Statement::Branch { .. } => None,
+        Statement::Constant { to, .. }
+        | Statement::Itself { to }
+        | Statement::Copy { to, .. }
+        | Statement::Add { to, .. }
+        | Statement::Subtract { to, .. }
+        | Statement::Less { to, .. }
+        | Statement::Get { to, .. }
+        | Statement::Create { to, .. } => Some(to),
         Statement::Invoke { to, .. } => to,
-        Statement::Get { to, .. } => Some(to),
-        Statement::Create { to, .. } => Some(to),
-        Statement::Return { .. } => None,
+        Statement::Branch { .. } | Statement::Return { .. } => None,
     }
 }

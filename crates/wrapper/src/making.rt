@@ -1,14 +1,13 @@
 //! Making objects.
-ghost use Rattle.std.specs.Prelude.{◌≡◌, ℕ, ◌<◌, if◌then◌else◌, nat_lt, slice_index_or};
+ghost use Rattle.std.specs.Prelude.{◌≡◌, ◌<◌, IfOk, Some, None, MatchResult};
 ghost use Rattle.script.specs.Classes.{classes_of};
-ghost use Rattle.script.specs.Layout.{every};
-ghost use Rattle.rules.specs.Values.{blank, nought};
-ghost use Rattle.rules.specs.Wrapper.{makeable};
+ghost use Rattle.rules.specs.Values.{nought};
+ghost use Rattle.rules.specs.Wrapper.{makeable, unmakeable, next_object};
 ghost use Rattle.store.specs.States.{state_of};
 ghost use Rattle.wrapper.specs.Floors.{floor_in};
 ghost use Rattle.wrapper.specs.Outcomes.{Makes};
 
-use crate::classes::fields_of;
+use crate::floors::Floors;
 use order::{Level, Order};
 use rules::calls::Refusal;
 use rules::tables::Object;
@@ -30,42 +29,44 @@ pub fn zero(label: Level) -> Labelled
 pub fn floor<O: Order>(order: &O, fields: &[Level], home: Level, field: u8) -> Level
     ensures { result ≡ floor_in (O.Order.levels order.now) fields.now home field }
 {
-    let declared = if (field as usize) < fields.len() {
-        fields[field as usize]
-    } else {
-        0
-    };
-    order.join(declared, home)
-}
-
-/// Whether every floor flows to a level.
-fn floors_flow<O: Order>(order: &O, fields: &[Level], home: Level, level: Level) -> bool
-    ensures { result ≡ every (λ declared. (O.Order.levels order.now).flow ((O.Order.levels order.now).join declared home) level) fields.now }
-{
-    for declared in fields {
-        if !order.flows(order.join(*declared, home), level) {
-            return false;
-        }
+    Floors {
+        declared: fields,
+        home,
     }
-    true
+    .floor(order, field)
 }
 
 /// Whether the home, and every floor, flows to a level.
 fn is_makeable<O: Order>(order: &O, classes: &[Class], home: Level, class: u8, level: Level) -> bool
     ensures { result ≡ makeable (O.Order.levels order.now) (classes_of classes.now) home class level }
 {
-    order.flows(home, level) && floors_flow(order, fields_of(classes, class), home, level)
+    order.flows(home, level) && Floors::of(classes, class, home).flow_to(order, level)
 }
 
-/// The fields of a new object: each is 0 labelled with its floor.
-fn first_fields<O: Order>(order: &O, fields: &[Level], home: Level) -> [Labelled; 8]
-    ensures { (k : ℕ) → slice_index_or result k blank ≡ (if nat_lt k 8 then nought (floor_in (O.Order.levels order.now) fields.now home k) else blank) }
+/// The number that a new object gets at its home; or why it may not be made.
+fn next_number<O: Order>(
+    order: &O,
+    classes: &[Class],
+    tables: &Tables,
+    home: Level,
+    class: u8,
+    level: Level,
+) -> Result<u8, Refusal>
+    requires { home < 8 }
+    ensures says { MatchResult result (λ n. (unmakeable (O.Order.levels order.now) (classes_of classes.now) (state_of tables.now) home class level ≡ None) × (n ≡ next_object (state_of tables.now) home)) (λ why. unmakeable (O.Order.levels order.now) (classes_of classes.now) (state_of tables.now) home class level ≡ Some why) }
+    ensures space { IfOk result (λ n. n < 8) }
 {
-    let mut first = [zero(0); 8];
-    for k in 0..8u8 {
-        first[k as usize] = zero(floor(order, fields, home, k));
+    if class as usize >= classes.len() {
+        return Err(Refusal::Unknown);
     }
-    first
+    if !is_makeable(order, classes, home, class, level) {
+        return Err(Refusal::NoFlow);
+    }
+    let number = tables.objects.count(home as usize);
+    if number >= 8 {
+        return Err(Refusal::Full);
+    }
+    Ok(number as u8)
 }
 
 /// Makes an object of a class at a level, with a home; or tells why not, and changes nothing.
@@ -80,27 +81,15 @@ pub fn make_object<O: Order>(
     requires { home < 8 }
     ensures { Makes (O.Order.levels order.now) (classes_of classes.now) (state_of tables.old) home class level result (state_of tables.new) }
 {
-    if class as usize >= classes.len() {
-        return Err(Refusal::Unknown);
-    }
-    if !is_makeable(order, classes, home, class, level) {
-        return Err(Refusal::NoFlow);
-    }
-    let number = tables.count_objects(home);
-    if number >= 8 {
-        return Err(Refusal::Full);
-    }
-    let fields = first_fields(order, fields_of(classes, class), home);
-    let _ = tables.add_object(
-        home,
+    let number = next_number(order, classes, tables, home, class, level)?;
+    let fields = Floors::of(classes, class, home).first_fields(order);
+    let _ = tables.objects.add(
+        home as usize,
         Object {
             class,
             level,
             fields,
         },
     );
-    Ok(Name {
-        home,
-        number: number as u8,
-    })
+    Ok(Name { home, number })
 }

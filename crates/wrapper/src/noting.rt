@@ -11,7 +11,7 @@ use rules::values::{Labelled, Mark, Value};
 use store::tables::Tables;
 
 /// Who is at work when a mark is made: a class, a method, and a statement from 1, or 0 by post.
-#[derive(Clone, Copy)]
+#[derive(Clone, Copy, Debug, PartialEq, Eq)]
 pub struct Place {
     pub class: u8,
     pub method: u8,
@@ -19,7 +19,8 @@ pub struct Place {
 }
 
 /// What a statement or a wrapper gives.
-#[derive(Clone, Copy)]
+// No `Result`: a fresh mark is no failure; it goes into its variable as any value does, and the rules name the two so.
+#[derive(Clone, Copy, Debug, PartialEq, Eq)]
 pub enum Made {
     /// A value as it is.
     Plain(Labelled),
@@ -54,7 +55,7 @@ pub fn settle<O: Order>(
                 method: place.method,
                 statement: place.statement,
             };
-            tables.file(line as usize, note);
+            let _ = tables.notes.add(line as usize, note);
             Labelled {
                 value: Value::Marked(mark),
                 label,

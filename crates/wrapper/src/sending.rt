@@ -11,13 +11,13 @@ ghost use Rattle.wrapper.specs.Sends.{with_future};
 use crate::making::zero;
 use crate::noting::{Made, Place, settle};
 use order::{Level, Order, join_within};
-use rules::tables::{Call, Layer, Object};
+use rules::tables::{Call, Future, Layer, Object};
 use rules::values::{Labelled, Mark, Name};
 use store::tables::Tables;
 
 /// A call that was admitted, on its way: the level at which it goes, the context that it is sent in, who sends it by which layer, whom it is
 /// for, which method, and whether it is to be answered.
-#[derive(Clone, Copy)]
+#[derive(Clone, Copy, Debug, PartialEq, Eq)]
 pub struct Sending {
     pub level: Level,
     pub context: Level,
@@ -34,10 +34,7 @@ fn mask<O: Order>(order: &O, level: Level, at: Level, layer: Layer, x: Labelled)
     ensures { made_of result ≡ shown (O.Order.levels order.now) [] level at layer x }
 {
     match join_within(order, x.label, at, level) {
-        Some(label) => Made::Plain(Labelled {
-            value: x.value,
-            label,
-        }),
+        Some(label) => Made::Plain(Labelled { label, ..x }),
         None => Made::Fresh {
             mark: Mark::Withheld,
             layer,
@@ -60,6 +57,7 @@ fn masked<O: Order>(
     ensures same { SameButNotes tables.old tables.new }
 {
     let mut locals = [zero(sending.level); 8];
+    // A `for` over the arguments and their places, by a rule of the project: each is masked by itself, and files a note.
     for (i, x) in arguments.iter().enumerate() {
         let made = mask(order, level, sending.level, sending.layer, *x);
         locals[i] = settle(order, tables, sending.context, sending.place, made);
@@ -75,11 +73,11 @@ fn open_future(tables: &mut Tables, level: Level, answered: bool) -> Option<u8>
     ensures futures { futures_of tables.new ≡ with_future (futures_of tables.old) level answered }
     ensures same { SameButFutures tables.old tables.new }
 {
+    // A test, and no `then`: of tables that a closure altered nothing is known.
     if !answered {
         return None;
     }
-    let number = tables.count_futures(level);
-    let _ = tables.add_future(level);
+    let number = tables.futures.add(level as usize, Future::Open).ok()?;
     Some(number as u8)
 }
 
@@ -106,6 +104,6 @@ pub fn send<O: Order>(
         next: 0,
         owed,
     };
-    let _ = tables.add_call(sending.level as usize, call);
+    let _ = tables.calls.add(sending.level as usize, call);
     owed
 }
