@@ -1,5 +1,4 @@
 pub mod Reading
 pub mod Ranges
 pub mod Raising
-pub mod Asking
-pub mod Telling
+pub mod Filling

@@ -1,5 +1,6 @@
 -- What is known of the parts of statements that are in their ranges.
-use Rattle.std.proofs.Common.{◌≡◌, ℕ, zero, suc, ◌<◌, Bool, true, ◌&&◌, ltb, List, [], ◌∷◌, get_or, Some, None, Option, refl}
+use Rattle.std.proofs.Common.{◌≡◌, ℕ, zero, suc, ◌<◌, Bool, true, ◌&&◌, ltb, List, [], ◌∷◌, get_or, Some, None, Option, refl, sym, subst, arith}
+use Rattle.std.specs.Option.{ForSome}
 use Rattle.std.proofs.lemmas.Bool.{ltb-true, and_parts}
 use Rattle.script.specs.declared.class.Variable.{Variable}
 use Rattle.script.specs.declared.class.Variable.TheVariants.{Local, Field}
@@ -8,7 +9,12 @@ use Rattle.script.specs.declared.class.Statement.TheVariants.{Constant, Itself, 
 use Rattle.script.specs.Bodies.{idle}
 use Rattle.script.specs.Layout.{every, exists, exists_if_any, in_range}
 use Rattle.rules.specs.Wrapper.{target}
-use Rattle.statements.specs.Turning.{number_of, Fits}
+use Rattle.statements.specs.Numbers.{number_of}
+
+-- a variable, if there is one, is one of the eight
+abbrev pub Fits : Option Variable → Type 0
+Fits None = Unit {0}
+Fits (Some x) = number_of x < 8
 
 every_at : {X : Type 0} (test : X → Bool) (xs : List X) (d : X) (i : ℕ) → every test xs ≡ true → test d ≡ true → test (get_or xs i d) ≡ true
 every_at test [] d i h k = k
@@ -45,6 +51,11 @@ range_fits levels fields (Return value) h = tt
 pub target_fits : (fields : ℕ) (body : List Statement) (at : ℕ) → every (in_range 8 fields) body ≡ true → Fits (target (get_or body at idle))
 target_fits fields body at h = range_fits 8 fields (get_or body at idle) (every_at (in_range 8 fields) body idle at h refl)
 
--- where the statement is known
-pub known_fits : (fields : ℕ) (body : List Statement) (at : ℕ) (s : Statement) → every (in_range 8 fields) body ≡ true → get_or body at idle ≡ s → Fits (target s)
-known_fits fields body at s h e = rw e at (target_fits fields body at h)
+some_fits : (to : Option Variable) → Fits to → ForSome to (λ x. number_of x < 8)
+some_fits (Some y) h x e = let same : y ≡ x = cc in subst (λ (v : Variable). number_of v < 8) same h
+some_fits None h x e = let z : ◌≡◌ {A = ℕ} 0 1 = cc in absurd (omega arith)
+
+-- as a step has it
+pub assigned_fits : (fields : ℕ) (body : List Statement) (at : ℕ) (to : Option Variable) → to ≡ target (get_or body at idle)
+    → every (in_range 8 fields) body ≡ true → ForSome to (λ x. number_of x < 8)
+assigned_fits fields body at to e h = subst (λ t. ForSome t (λ x. number_of x < 8)) (sym e) (some_fits _ (target_fits fields body at h))

@@ -1,5 +1,4 @@
+pub mod Numbers
 pub mod Turning
 pub mod Operations
 pub mod Fetching
-pub mod Passing
-pub mod Kinds

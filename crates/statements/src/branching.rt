@@ -1,40 +1,54 @@
 //! I: which branch it picks, and what it raises before.
 ghost use Rattle.std.specs.Prelude.{◌≡◌, ◌+◌, ◌≤◌, length, if◌then◌else◌};
+ghost use Rattle.std.specs.List.{list_any};
 ghost use Rattle.rules.specs.Values.{labelled};
 ghost use Rattle.rules.specs.Tables.{State};
-ghost use Rattle.rules.specs.Wrapper.{same_variable, assigns, assigned};
+ghost use Rattle.rules.specs.Wrapper.{target, assigns};
 ghost use Rattle.rules.specs.Statements.{read, raise};
 ghost use Rattle.stepper.specs.declared.machine.Next.TheVariants.{Enter};
 ghost use Rattle.stepper.specs.Halves.{picked};
-ghost use Rattle.statements.specs.Turning.{running_of, program_of, scene_of_frame, Framed};
+ghost use Rattle.statements.specs.Turning.{running_of, program_of, scene_of_frame};
 
-use crate::frame::Frame;
+use crate::frame::Step;
 use crate::variables::Variables;
 use order::{Level, Order};
 use rules::values::{Labelled, Value};
-use script::class::Variable;
+use script::class::{Statement, Variable};
+use std::array;
 use stepper::machine::Next;
 use wrapper::classes::assigned_by;
 
-/// Whether two variables are one.
-fn same(one: Variable, other: Variable) -> bool
-    ensures { result ≡ same_variable one other }
+/// Whether a statement assigns a variable.
+fn assigns(statement: Statement, x: Variable) -> bool
+    ensures { result ≡ assigns (target statement) x }
 {
-    match (one, other) {
-        (Variable::Local(i), Variable::Local(j)) => i == j,
-        (Variable::Field(i), Variable::Field(j)) => i == j,
-        (Variable::Local(_), Variable::Field(_)) => false,
-        (Variable::Field(_), Variable::Local(_)) => false,
-    }
+    assigned_by(statement) == Some(x)
 }
 
-/// Whether what is assigned, if anything, is that variable.
-fn is(to: Option<Variable>, x: Variable) -> bool
-    ensures { result ≡ assigns to x }
+/// Whether one of the statements assigns a variable.
+fn any_assigns(statements: &[Statement], x: Variable) -> bool
+    ensures { result ≡ list_any (λ s. assigns (target s) x) statements.now }
 {
-    match to {
-        Some(to) => same(to, x),
-        None => false,
+    statements.iter().any(|statement| assigns(*statement, x))
+}
+
+/// What a variable holds once its label is raised, if one of the statements assigns it.
+fn raised<O: Order>(
+    order: &O,
+    by: Level,
+    statements: &[Statement],
+    x: Variable,
+    held: Labelled,
+) -> Labelled
+    ensures { result ≡ (if list_any (λ s. assigns (target s) x) statements.now then labelled held.value ((O.Order.levels order.now).join held.label by) else held) }
+{
+    if any_assigns(statements, x) {
+        Labelled {
+            value: held.value,
+            label: order.join(held.label, by),
+        }
+    } else {
+        held
     }
 }
 
@@ -43,74 +57,32 @@ fn pick(value: Value, first: Next, second: Next) -> Next
     ensures { result ≡ picked value first second }
 {
     match value {
-        Value::Number(k) => { if k != 0 { first } else { second } }
+        Value::Number(0) => second,
+        Value::Number(_) => first,
         _ => Next::On,
     }
 }
 
-impl<'a> Frame<'a> {
-    /// Whether one of the `count` statements from `start` on assigns a variable.
-    fn assigns(&self, start: usize, count: usize, x: Variable) -> bool
-        requires { start + count ≤ length self.now.body.now }
-        ensures { result ≡ assigned self.now.body.now start count x }
-    {
-        for i in start..start + count {
-            if is(assigned_by(self.body[i]), x) {
-                return true;
-            }
-        }
-        false
-    }
-
-    /// What a variable holds once its label is raised, if one of the `count` statements from `start` on assigns it.
-    fn raised<O: Order>(
-        &self,
-        order: &O,
-        by: Level,
-        start: usize,
-        count: usize,
-        x: Variable,
-        value: Labelled,
-    ) -> Labelled
-        requires { start + count ≤ length self.now.body.now }
-        ensures { result ≡ (if assigned self.now.body.now start count x then labelled value.value ((O.Order.levels order.now).join value.label by) else value) }
-    {
-        if self.assigns(start, count, x) {
-            Labelled {
-                value: value.value,
-                label: order.join(value.label, by),
-            }
-        } else {
-            value
-        }
-    }
-
-    /// Raises all that the `count` statements from `start` on assign by the guard's label and the context, where that label does not flow to
+impl<'a> Step<'a> {
+    /// Raises all that the `count` statements after this one assign by the guard's label and the context, where that label does not flow to
     /// the context.
-    fn raise<O: Order>(
-        &self,
-        order: &O,
-        variables: &mut Variables,
-        guard: Level,
-        context: Level,
-        start: usize,
-        count: usize,
-    )
-        requires framed { Framed self.now }
-        requires within { start + count ≤ length self.now.body.now }
-        ensures { (σ : State) → running_of variables.new σ ≡ raise (O.Order.levels order.now) (program_of self.now) (scene_of_frame self.now) guard context start count (running_of variables.old σ) }
+    fn raise<O: Order>(&self, order: &O, variables: &mut Variables, guard: Level, count: usize)
+        requires { self.now.at + 1 + count ≤ length self.now.frame.body.now }
+        ensures { (σ : State) → running_of variables.new σ ≡ raise (O.Order.levels order.now) (program_of self.now.frame) (scene_of_frame self.now.frame) guard self.now.context (self.now.at + 1) count (running_of variables.old σ) }
     {
-        if order.flows(guard, context) {
+        if order.flows(guard, self.context) {
             return;
         }
-        let by = order.join(guard, context);
-        for k in 0..8u8 {
-            let i = k as usize;
-            let local = variables.locals[i];
-            let field = variables.fields[i];
-            variables.locals[i] = self.raised(order, by, start, count, Variable::Local(k), local);
-            variables.fields[i] = self.raised(order, by, start, count, Variable::Field(k), field);
-        }
+        let by = order.join(guard, self.context);
+        let start = self.at + 1;
+        let branches = &self.frame.body[start..start + count];
+        let Variables { locals, fields } = *variables;
+        variables.locals = array::from_fn(|i| {
+            raised(order, by, branches, Variable::Local(i as u8), locals[i])
+        });
+        variables.fields = array::from_fn(|i| {
+            raised(order, by, branches, Variable::Field(i as u8), fields[i])
+        });
     }
 
     /// I: raises what its branches assign, and leads into the first branch where the guard is a number other than 0, into the second where
@@ -119,30 +91,25 @@ impl<'a> Frame<'a> {
         &self,
         order: &O,
         variables: &mut Variables,
-        at: usize,
-        context: Level,
         guard: Variable,
         first: u8,
         second: u8,
     ) -> Next
-        requires framed { Framed self.now }
-        requires within { at + 1 + (first + second) ≤ length self.now.body.now }
-        ensures next { (σ : State) → result ≡ picked (read (running_of variables.old σ) guard).value (Enter (at + 1) (at + 1 + first) ((O.Order.levels order.now).join (read (running_of variables.old σ) guard).label context)) (Enter (at + 1 + first) (at + 1 + first + second) ((O.Order.levels order.now).join (read (running_of variables.old σ) guard).label context)) }
-        ensures does { (σ : State) → running_of variables.new σ ≡ raise (O.Order.levels order.now) (program_of self.now) (scene_of_frame self.now) (read (running_of variables.old σ) guard).label context (at + 1) (first + second) (running_of variables.old σ) }
+        requires { self.now.at + 1 + (first + second) ≤ length self.now.frame.body.now }
+        ensures next { (σ : State) → result ≡ picked (read (running_of variables.old σ) guard).value (Enter (self.now.at + 1) (self.now.at + 1 + first) ((O.Order.levels order.now).join (read (running_of variables.old σ) guard).label self.now.context)) (Enter (self.now.at + 1 + first) (self.now.at + 1 + first + second) ((O.Order.levels order.now).join (read (running_of variables.old σ) guard).label self.now.context)) }
+        ensures does { (σ : State) → running_of variables.new σ ≡ raise (O.Order.levels order.now) (program_of self.now.frame) (scene_of_frame self.now.frame) (read (running_of variables.old σ) guard).label self.now.context (self.now.at + 1) (first + second) (running_of variables.old σ) }
     {
         let guard = variables.read(guard);
-        let start = at + 1;
+        let start = self.at + 1;
         let middle = start + first as usize;
         let end = middle + second as usize;
         self.raise(
             order,
             variables,
             guard.label,
-            context,
-            start,
             first as usize + second as usize,
         );
-        let context = order.join(guard.label, context);
+        let context = order.join(guard.label, self.context);
         pick(
             guard.value,
             Next::Enter {

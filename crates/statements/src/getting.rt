@@ -1,13 +1,14 @@
 //! G: what a future gives.
-ghost use Rattle.std.specs.Prelude.{◌≡◌, ◌<◌, length, slice_index_or};
+ghost use Rattle.std.specs.Prelude.{◌≡◌, slice_index_or};
+ghost use Rattle.std.specs.Option.{ForSome};
 ghost use Rattle.rules.specs.declared.tables.Future.TheVariants.{Open};
 ghost use Rattle.rules.specs.Statements.{read, opened, fetched};
 ghost use Rattle.store.specs.States.{state_of, futures_of};
 ghost use Rattle.stepper.specs.Halves.{taken, waiting};
-ghost use Rattle.statements.specs.Turning.{working, program_of, scene_of_frame, number_of, Framed};
+ghost use Rattle.statements.specs.Turning.{working, program_of, scene_of_frame};
 ghost use Rattle.statements.specs.Fetching.{fetched_of};
 
-use crate::frame::Frame;
+use crate::frame::{Frame, Step};
 use crate::variables::Variables;
 use order::{Level, Order, join_within};
 use rules::tables::{Event, Future, Layer};
@@ -21,28 +22,24 @@ use wrapper::noting::Made;
 fn future_of(tables: &Tables, name: Name) -> Future
     ensures { result ≡ slice_index_or (futures_of tables.now name.home) name.number Open }
 {
-    match tables.future(name) {
-        Some(future) => future,
-        None => Future::Open,
-    }
+    tables
+        .futures
+        .get(name.home as usize, name.number as usize)
+        .unwrap_or(Future::Open)
 }
 
 impl<'a> Frame<'a> {
     /// What a future gives at a level. A value comes with its label joined with the level, if that flows to the object's level, or else as
     /// the mark *withheld*. An open future holds the turn where the level flows to the call's, and else gives the mark *not yet*.
-    fn open<O: Order>(&self, order: &O, level: Level, future: Future) -> Option<Made>
+    fn open<O: Order>(&self, order: &O, level: Level, mut future: Future) -> Option<Made>
         ensures { fetched_of result ≡ opened (O.Order.levels order.now) (program_of self.now) (scene_of_frame self.now) level future }
     {
-        let mut future = future;
         let Some(value) = future.meet(Event::Get) else {
-            return if order.flows(level, self.called_at) {
-                None
-            } else {
-                Some(Made::Plain(Labelled {
-                    value: Value::Marked(Mark::NotYet),
-                    label: level,
-                }))
-            };
+            let not_yet = Made::Plain(Labelled {
+                value: Value::Marked(Mark::NotYet),
+                label: level,
+            });
+            return (!order.flows(level, self.called_at)).then_some(not_yet);
         };
         Some(match join_within(order, value.label, level, self.level) {
             Some(label) => Made::Plain(Labelled {
@@ -56,21 +53,17 @@ impl<'a> Frame<'a> {
             },
         })
     }
+}
 
+impl<'a> Step<'a> {
     /// What G finds behind a value: none where it has to wait. A mark is copied.
-    fn fetch<O: Order>(
-        &self,
-        order: &O,
-        tables: &Tables,
-        context: Level,
-        future: Labelled,
-    ) -> Option<Made>
-        ensures { fetched_of result ≡ fetched (O.Order.levels order.now) (program_of self.now) (scene_of_frame self.now) (state_of tables.now) context future.value future.label }
+    fn fetch<O: Order>(&self, order: &O, tables: &Tables, future: Labelled) -> Option<Made>
+        ensures { fetched_of result ≡ fetched (O.Order.levels order.now) (program_of self.now.frame) (scene_of_frame self.now.frame) (state_of tables.now) self.now.context future.value future.label }
     {
         match future.value {
             Value::FutureName(name) => {
-                let level = order.join(order.join(context, future.label), name.home);
-                self.open(order, level, future_of(tables, name))
+                let level = order.join(order.join(self.context, future.label), name.home);
+                self.frame.open(order, level, future_of(tables, name))
             }
             Value::Marked(_) => Some(Made::Plain(future)),
             _ => Some(Made::Fresh {
@@ -81,29 +74,21 @@ impl<'a> Frame<'a> {
         }
     }
 
-    /// G: `to` becomes what the future that `future` names holds, or a mark; or the statement holds the turn, and nothing changes.
+    /// G: its variable becomes what the future that `future` names holds, or a mark; or the statement holds the turn, and nothing changes.
     pub fn get<O: Order>(
         &self,
         order: &O,
         variables: &mut Variables,
         tables: &mut Tables,
-        at: usize,
-        context: Level,
-        to: Variable,
         future: Variable,
     ) -> Next
-        requires framed { Framed self.now }
-        requires within { at < length self.now.body.now }
-        requires fits { number_of to < 8 }
-        ensures next { result ≡ waiting (fetched (O.Order.levels order.now) (program_of self.now) (scene_of_frame self.now) (state_of tables.old) context (read (working variables.old tables.old) future).value (read (working variables.old tables.old) future).label) }
-        ensures does { working variables.new tables.new ≡ taken (O.Order.levels order.now) (program_of self.now) (scene_of_frame self.now) context at to (working variables.old tables.old) (fetched (O.Order.levels order.now) (program_of self.now) (scene_of_frame self.now) (state_of tables.old) context (read (working variables.old tables.old) future).value (read (working variables.old tables.old) future).label) }
+        ensures next { result ≡ waiting (fetched (O.Order.levels order.now) (program_of self.now.frame) (scene_of_frame self.now.frame) (state_of tables.old) self.now.context (read (working variables.old tables.old) future).value (read (working variables.old tables.old) future).label) }
+        ensures does { ForSome self.now.to (λ to. working variables.new tables.new ≡ taken (O.Order.levels order.now) (program_of self.now.frame) (scene_of_frame self.now.frame) self.now.context self.now.at to (working variables.old tables.old) (fetched (O.Order.levels order.now) (program_of self.now.frame) (scene_of_frame self.now.frame) (state_of tables.old) self.now.context (read (working variables.old tables.old) future).value (read (working variables.old tables.old) future).label)) }
     {
-        match self.fetch(order, tables, context, variables.read(future)) {
-            Some(made) => {
-                self.give(order, variables, tables, at, context, Some(to), made);
-                Next::On
-            }
-            None => Next::Hold,
-        }
+        let Some(made) = self.fetch(order, tables, variables.read(future)) else {
+            return Next::Hold;
+        };
+        self.give(order, variables, tables, made);
+        Next::On
     }
 }

@@ -1,36 +1,46 @@
 //! Results, and where they go.
-ghost use Rattle.std.specs.Prelude.{◌≡◌, ◌+◌, ◌<◌, length};
+ghost use Rattle.std.specs.Prelude.{◌≡◌, ◌+◌, ◌<◌};
+ghost use Rattle.std.specs.Option.{ForSome};
+ghost use Rattle.rules.specs.declared.tables.Layer.TheVariants.{AtObject, AtStatement};
 ghost use Rattle.rules.specs.Tables.{State};
-ghost use Rattle.rules.specs.Statements.{settled, put, with_result};
+ghost use Rattle.rules.specs.Statements.{settled, put, call_mark, object_mark};
 ghost use Rattle.wrapper.specs.Marks.{made_of, place_of};
-ghost use Rattle.statements.specs.Turning.{running_of, working, program_of, scene_of_frame, Framed, Fits};
+ghost use Rattle.statements.specs.Numbers.{number_of};
+ghost use Rattle.statements.specs.Turning.{running_of, working, program_of, scene_of_frame, with_result_of};
 
-use crate::frame::Frame;
+use crate::frame::{Frame, Step};
 use crate::variables::Variables;
 use order::{Level, Order};
-use rules::values::Labelled;
+use rules::calls::Refusal;
+use rules::tables::Layer;
+use rules::values::{Labelled, Mark};
 use script::class::Variable;
 use store::tables::Tables;
 use wrapper::making::floor;
 use wrapper::noting::{Made, Place, settle};
 
-impl<'a> Frame<'a> {
-    /// The place that notes of the statement at `at` tell: they count statements from 1.
-    pub fn place(&self, at: usize) -> Place
-        requires framed { Framed self.now }
-        requires within { at < length self.now.body.now }
-        ensures { place_of result ≡ record { class = self.now.class; method = self.now.method; statement = at + 1 } }
-    {
-        Place {
-            class: self.class,
-            method: self.method,
-            statement: (at + 1) as u8,
-        }
+/// The mark that stands for what was refused: 3 without space, else 2, by the layer that refused it.
+pub(crate) fn refusal_mark(why: Refusal, layer: Layer, label: Level) -> Made
+    ensures call { layer ≡ AtObject → made_of result ≡ call_mark why label }
+    ensures object { layer ≡ AtStatement → made_of result ≡ object_mark why label }
+{
+    match why {
+        Refusal::Full => Made::Fresh {
+            mark: Mark::NoSpace,
+            layer: Layer::AtTable,
+            label,
+        },
+        _ => Made::Fresh {
+            mark: Mark::Refused,
+            layer,
+            label,
+        },
     }
+}
 
+impl<'a> Frame<'a> {
     /// The label of a result in a variable: its own joined with the context and, in a field, with the floor.
     fn settled<O: Order>(&self, order: &O, context: Level, to: Variable, label: Level) -> Level
-        requires { Framed self.now }
         ensures { result ≡ settled (O.Order.levels order.now) (program_of self.now) (scene_of_frame self.now) context to label }
     {
         let joined = order.join(label, context);
@@ -49,8 +59,7 @@ impl<'a> Frame<'a> {
         to: Option<Variable>,
         value: Labelled,
     )
-        requires framed { Framed self.now }
-        requires fits { Fits to }
+        requires { ForSome to (λ x. number_of x < 8) }
         ensures { (σ : State) → running_of variables.new σ ≡ put (O.Order.levels order.now) (program_of self.now) (scene_of_frame self.now) context to value (running_of variables.old σ) }
     {
         if let Some(to) = to {
@@ -64,24 +73,32 @@ impl<'a> Frame<'a> {
             );
         }
     }
+}
 
-    /// Puts what the statement at `at` gives into its variable, if there is one; the note of a new mark goes into its line.
+impl<'a> Step<'a> {
+    /// The place that notes of the statement tell: they count statements from 1.
+    pub fn place(&self) -> Place
+        ensures { place_of result ≡ record { class = self.now.frame.class; method = self.now.frame.method; statement = self.now.at + 1 } }
+    {
+        Place {
+            class: self.frame.class,
+            method: self.frame.method,
+            statement: (self.at + 1) as u8,
+        }
+    }
+
+    /// Puts what the statement gives into its variable, if there is one; the note of a new mark goes into its line.
     pub fn give<O: Order>(
         &self,
         order: &O,
         variables: &mut Variables,
         tables: &mut Tables,
-        at: usize,
-        context: Level,
-        to: Option<Variable>,
         made: Made,
     )
-        requires framed { Framed self.now }
-        requires within { at < length self.now.body.now }
-        requires fits { Fits to }
-        ensures { working variables.new tables.new ≡ with_result (O.Order.levels order.now) (program_of self.now) (scene_of_frame self.now) context at to (made_of made) (working variables.old tables.old) }
+        ensures { working variables.new tables.new ≡ with_result_of (O.Order.levels order.now) self.now (made_of made) (working variables.old tables.old) }
     {
-        let value = settle(order, tables, context, self.place(at), made);
-        self.put(order, variables, context, to, value);
+        let value = settle(order, tables, self.context, self.place(), made);
+        self.frame
+            .put(order, variables, self.context, self.to, value);
     }
 }

@@ -1,14 +1,14 @@
 //! A, D and L: a sum, a difference, and whether one number is less than another.
-ghost use Rattle.std.specs.Prelude.{◌≡◌, ◌<◌, length, Some};
+ghost use Rattle.std.specs.Prelude.{◌≡◌};
 ghost use Rattle.rules.specs.Values.{worked};
-ghost use Rattle.rules.specs.Statements.{read, with_result, operated};
+ghost use Rattle.rules.specs.Statements.{read, operated};
 ghost use Rattle.wrapper.specs.Marks.{made_of};
-ghost use Rattle.statements.specs.Turning.{working, program_of, scene_of_frame, number_of, Framed};
+ghost use Rattle.statements.specs.Turning.{working, program_of, scene_of_frame, with_result_of};
 ghost use Rattle.statements.specs.Operations.{on_numbers};
 
-use crate::frame::Frame;
+use crate::frame::Step;
 use crate::variables::Variables;
-use order::{Level, Order};
+use order::Order;
 use rules::tables::Layer;
 use rules::values::{Labelled, Mark, Value};
 use script::class::Variable;
@@ -16,6 +16,7 @@ use store::tables::Tables;
 use wrapper::noting::Made;
 
 /// What a statement works out from two numbers.
+// An enum and no closure: the clauses name what an operation works out by its variant, and of a closure they could only name each call.
 #[derive(Clone, Copy)]
 pub enum Operation {
     /// A: the sum.
@@ -57,26 +58,20 @@ impl Operation {
     }
 }
 
-impl<'a> Frame<'a> {
-    /// A, D or L: `to` becomes what comes out for `left` and `right`.
+impl<'a> Step<'a> {
+    /// A, D or L: its variable becomes what comes out for `left` and `right`.
     pub fn operate<O: Order>(
         &self,
         order: &O,
         variables: &mut Variables,
         tables: &mut Tables,
-        at: usize,
-        context: Level,
         operation: Operation,
-        to: Variable,
         left: Variable,
         right: Variable,
     )
-        requires framed { Framed self.now }
-        requires within { at < length self.now.body.now }
-        requires fits { number_of to < 8 }
-        ensures { working variables.new tables.new ≡ with_result (O.Order.levels order.now) (program_of self.now) (scene_of_frame self.now) context at (Some to) (operated (O.Order.levels order.now) (program_of self.now) (scene_of_frame self.now) (on_numbers operation) (read (working variables.old tables.old) left) (read (working variables.old tables.old) right)) (working variables.old tables.old) }
+        ensures { working variables.new tables.new ≡ with_result_of (O.Order.levels order.now) self.now (operated (O.Order.levels order.now) (program_of self.now.frame) (scene_of_frame self.now.frame) (on_numbers operation) (read (working variables.old tables.old) left) (read (working variables.old tables.old) right)) (working variables.old tables.old) }
     {
         let made = operation.on_values(order, variables.read(left), variables.read(right));
-        self.give(order, variables, tables, at, context, Some(to), made);
+        self.give(order, variables, tables, made);
     }
 }

@@ -4,7 +4,7 @@ ghost use Rattle.script.specs.Bodies.{nested};
 ghost use Rattle.rules.specs.Turns.{exec};
 ghost use Rattle.store.specs.States.{state_of};
 ghost use Rattle.stepper.specs.Halves.{ends, StopsWithin};
-ghost use Rattle.statements.specs.Turning.{running_of, working, program_of, scene_of_frame, Framed};
+ghost use Rattle.statements.specs.Turning.{running_of, working, program_of, scene_of_frame};
 
 use crate::frame::Frame;
 use crate::variables::Variables;
@@ -29,7 +29,7 @@ impl<'a, 't> Machine for Turn<'a, 't> {
 
     ghost program = { λ s. program_of s.frame };
 
-    ghost ready = { λ _ s. Framed s.frame };
+    ghost ready = { λ _ _. Unit {0} };
 
     ghost lent = { λ s. s.tables.ghost_name ∷ [] };
 
@@ -53,7 +53,6 @@ pub fn take_turn<O: Order>(
     variables: &mut Variables,
     tables: &mut Tables,
 ) -> Outcome
-    requires framed { Framed frame.now }
     requires level { frame.now.called_at < (O.Order.levels order.now).count }
     requires nested { nested (length frame.now.body.now) frame.now.body.now 4 0 (length frame.now.body.now) ≡ true }
     ensures does { ends result (working variables.new tables.new) ≡ exec (O.Order.levels order.now) (program_of frame.now) (scene_of_frame frame.now) (length frame.now.body.now) 0 (length frame.now.body.now) frame.now.called_at (working variables.old tables.old) }

@@ -3,13 +3,15 @@ ghost use Rattle.std.specs.Prelude.{◌≡◌, ◌<◌, slice_index_or};
 ghost use Rattle.rules.specs.Values.{blank};
 ghost use Rattle.rules.specs.Tables.{State};
 ghost use Rattle.rules.specs.Statements.{read, stored};
-ghost use Rattle.statements.specs.Turning.{running_of, number_of};
+ghost use Rattle.statements.specs.Numbers.{number_of};
+ghost use Rattle.statements.specs.Turning.{running_of};
 
 use rules::values::Labelled;
 use script::class::Variable;
 use wrapper::making::zero;
 
 /// What a turn reads and assigns: the call's eight locals, and the fields of the running object; those past its class's count are not used.
+// Eight places each, in the value itself: serving a call allocates nothing.
 #[derive(Clone, Copy)]
 pub struct Variables {
     pub locals: [Labelled; 8],
@@ -20,11 +22,7 @@ pub struct Variables {
 fn held(places: &[Labelled; 8], number: u8) -> Labelled
     ensures { result ≡ slice_index_or places.now number blank }
 {
-    if number < 8 {
-        places[number as usize]
-    } else {
-        zero(0)
-    }
+    places.get(number as usize).copied().unwrap_or(zero(0))
 }
 
 impl Variables {

@@ -1,10 +1,12 @@
+use Rattle.std.proofs.Common.{sym, ap, ◌∙◌}
+use Rattle.std.specs.Option.{unwrap_or}
+use Rattle.std.proofs.lemmas.Iterator.Adapters.{option_map_id}
 use Rattle.rules.specs.declared.tables.Future.TheVariants.{Open}
 use Rattle.store.specs.States.{futures_of}
-use Rattle.statements.proofs.Reading.{get_or-some, get_or-none}
+use Rattle.statements.proofs.Reading.{nth_or}
 use Rattle.statements.proofs.getting.future_of.Goals as goal
 
-pub returns-in-Some : goal.returns-in-Some
-returns-in-Some c = get_or-some (futures_of c.args.tables.now c.args.name.home) c.args.name.number Open _ c.in-Some.ensures
-
-pub returns-in-None : goal.returns-in-None
-returns-in-None c = get_or-none (futures_of c.args.tables.now c.args.name.home) c.args.name.number Open c.in-None.ensures
+pub returns : goal.returns
+returns c =
+    c.unwrap_or.ensures ∙ ap (λ o. unwrap_or o Open) (sym (option_map_id c.get.result) ∙ c.get.ensures)
+    ∙ nth_or (futures_of c.args.tables.now c.args.name.home) c.args.name.number Open
