@@ -1,11 +1,10 @@
 -- The promises of a whole run, from the laws of the rules.
-use Rattle.std.proofs.Common.{◌≡◌, ℕ, true, List, IfOk, Some, Ok, Err, Result, sym, ap, ◌∙◌, subst, arith, MatchResult}
+use Rattle.std.proofs.Common.{◌≡◌, ℕ, true, List, IfOk, Some, Ok, Err, Result, sym, ap, ◌∙◌, subst, MatchResult}
 use Rattle.order.specs.Levels.{Levels, Laws}
 use Rattle.script.specs.declared.fault.BodyFault.{BodyFault}
 use Rattle.script.specs.declared.fault.LoadError.{LoadError}
-use Rattle.script.specs.declared.fault.LoadError.TheVariants.{Fault, Memory}
+use Rattle.script.specs.declared.fault.LoadError.TheVariants.{Memory}
 use Rattle.script.specs.Classes.{Program}
-use Rattle.script.specs.Drafts.{Failed, Gives}
 use Rattle.script.specs.Layout.{well_formed}
 use Rattle.rules.specs.declared.tables.Future.TheVariants.{Holding}
 use Rattle.rules.specs.Lists.{nth}
@@ -16,27 +15,13 @@ use Rattle.rules.proofs.Secret.{secrecy}
 use Rattle.rules.proofs.Lawful.{labels_flow, labels_levels, futures_owed, values_stay}
 use Rattle.host.specs.declared.serving.Served.{Served}
 use Rattle.host.specs.Hosts.{program_in, state_in}
-use Rattle.host.specs.Promises.{ran_of, run_with, KeepsSecrets, OwesEach, KeepsValues}
-
--- a text that does not load
-pub failed_run : (o : Levels) (told : Result Program BodyFault) (requests : List Request) (e : LoadError) → Failed e told → Failed e (run_with o told requests)
-failed_run o told requests Memory h = tt
-failed_run o told requests (Fault f) h = ap (λ p. run_with o p requests) h
+use Rattle.host.specs.Promises.{ran_of, KeepsSecrets, OwesEach, KeepsValues}
 
 module _ (o : Levels) (laws : Laws o) (told : Result Program BodyFault) (program : Program) (requests : List Request) (reads : told ≡ Ok program)
     (formed : well_formed o.count program ≡ true) where
   -- what a program was served with
   abbrev pub RanWith : Result Served LoadError → Type 0
   RanWith r = MatchResult r (λ s. (run o program requests ≡ ran_of s) × (program_in s.host ≡ program)) (λ e. e ≡ Memory)
-
-  pub exact : (r : Result Served LoadError) → RanWith r → Gives ran_of r (run_with o told requests)
-  exact (Ok s) h = ap (λ p. run_with o p requests) reads ∙ ap Ok h.0
-  exact (Err Memory) h = tt
-  exact (Err (Fault f)) h = let z : ◌≡◌ {A = ℕ} 0 1 = cc in absurd (omega arith)
-
-  pub loaded : (r : Result Served LoadError) → RanWith r → IfOk r (λ s. told ≡ Ok (program_in s.host))
-  loaded (Ok s) h = reads ∙ ap Ok (sym h.1)
-  loaded (Err e) h = tt
 
   state_is : (s : Served) → run o program requests ≡ ran_of s → (run o program requests).state ≡ state_in s.host
   state_is s e = ap (λ (r : Ran). r.state) e

@@ -1,23 +1,31 @@
 -- Numbers as they were sent, and what the rules make of them.
-use Rattle.std.proofs.Common.{◌≡◌, ℕ, ◌<◌, ◌≤◌, Bool, true, false, cond, ltb, List, length, ℤ, pos, negsuc, Some, None, Option, sym, refl, ap, ◌∙◌, inl, inr, arith, to_z-of_z, w32, SFits, to_z, of_z}
-use Rattle.std.proofs.lemmas.Bool.{cases_Bool, cond-true, cond-false, ltb-true, ltb-false, lt-ltb, le-ltb}
+use Rattle.std.proofs.Common.{◌≡◌, ℕ, ◌≤◌, Bool, true, false, cond, ltb, List, length, ℤ, pos, negsuc, Some, None, Option, Ok, ok_or, sym, refl, ap, ◌∙◌, inl, inr, arith, to_z-of_z, w32, SFits, to_z, of_z}
+use Rattle.std.proofs.lemmas.Bool.{cases_Bool, cond-true, cond-false, ltb-false}
 use Rattle.order.specs.Levels.{Levels}
 use Rattle.script.specs.Classes.{Program}
 use Rattle.rules.specs.declared.calls.Refusal.{Refusal}
-use Rattle.rules.specs.declared.calls.Refusal.TheVariants.{NotALevel, Unknown, NotMade, Nothing}
+use Rattle.rules.specs.declared.calls.Refusal.TheVariants.{NotALevel, NotMade}
 use Rattle.rules.specs.declared.calls.Argument.{Argument}
-use Rattle.rules.specs.declared.tables.Note.{Note}
-use Rattle.rules.specs.Lists.{nth, oldest, Placed}
+use Rattle.rules.specs.Lists.{nth}
 use Rattle.rules.specs.Values.{name}
 use Rattle.rules.specs.Tables.{State}
 use Rattle.rules.specs.Wrapper.{judged, verdict}
-use Rattle.rules.specs.Calling.{post, turn, collect, note, natural, size, level_of, labels_stand, Served, refuse, require, found, is_of, taken, posted, answer}
+use Rattle.rules.specs.Calling.{post, turn, collect, natural, size, level_of, labels_stand, Served, refuse, require, found, posted, answer}
 use Rattle.host.specs.Numbers.{byte_of}
 use Rattle.line.proofs.Places.{nth_past}
 
 -- a parameter is what its bits say
 pub as_sent : {X : Type 0} (f : ℤ → X) (z : ℤ) (x : X) → SFits w32 z → x ≡ f (to_z w32 (of_z w32 z)) → x ≡ f z
 as_sent f z x fits e = e ∙ ap f (to_z-of_z fits)
+
+-- what was found, and would have been refused
+found_ok : {X : Type 0} (x : Option X) (y : X) (why : Refusal) → Ok y ≡ ok_or x why → Some y ≡ x
+found_ok None y why e = let z : ◌≡◌ {A = ℕ} 0 1 = cc in absurd (omega arith)
+found_ok (Some x) y why e = cc
+
+-- a level that was found
+pub level_sent : (o : Levels) (z : ℤ) (k : ℕ) → SFits w32 z → Ok k ≡ ok_or (level_of o (to_z w32 (of_z w32 z))) NotALevel → Some k ≡ level_of o z
+level_sent o z k fits e = as_sent (level_of o) z (Some k) fits (found_ok _ k NotALevel e)
 
 -- a byte is the number itself
 pub natural_byte : (z : ℤ) (k : ℕ) → Some k ≡ byte_of z → natural z ≡ Some k
@@ -42,15 +50,6 @@ found_no_byte σ (pos n) why rest e h =
     ]
 found_no_byte σ (negsuc n) why rest e h = refl
 
--- a level is below the count
-pub level_below : (o : Levels) (z : ℤ) (k : ℕ) → Some k ≡ level_of o z → k < o.count
-level_below o (pos n) k e =
-    elim (cases_Bool (ltb n o.count)) [
-      | inl t ↦ let f = e ∙ cond-true (ltb n o.count) _ _ t in let q : k ≡ n = cc in omega (arith, ltb-true n o.count t)
-      | inr t ↦ let f = e ∙ cond-false (ltb n o.count) _ _ t in let z : ◌≡◌ {A = ℕ} 0 1 = cc in absurd (omega arith)
-    ]
-level_below o (negsuc n) k e = let z : ◌≡◌ {A = ℕ} 0 1 = cc in absurd (omega arith)
-
 -- what was found goes on
 found_some : {X : Type 0} (σ : State) (x : Option X) (y : X) (why : Refusal) (rest : X → Served) → x ≡ Some y → found σ x why rest ≡ rest y
 found_some σ x y why rest e = ap (λ o. found σ o why rest) e
@@ -60,9 +59,6 @@ found_none σ x why rest e = ap (λ o. found σ o why rest) e
 
 require_true : (σ : State) (b : Bool) (why : Refusal) (rest : Served) → b ≡ true → require σ b why rest ≡ rest
 require_true σ b why rest e = ap (λ c. require σ c why rest) e
-
-require_false : (σ : State) (b : Bool) (why : Refusal) (rest : Served) → b ≡ false → require σ b why rest ≡ refuse σ why
-require_false σ b why rest e = ap (λ c. require σ c why rest) e
 
 either_none : {X : Type 0} (b : Bool) (x : Option X) → x ≡ None → cond b x None ≡ None
 either_none true x q = q
@@ -85,38 +81,9 @@ module _ (o : Levels) (program : Program) (σ : State) where
         both_levels _
         ∙ found_no_byte σ number NotMade _ e (λ k big. found_none σ _ NotMade _ (either_none (o.flow h s) _ (nth_past (σ.objects h) k (omega arith))))
 
-  -- NOTE
-
-  module _ (a class : ℤ) (s k : ℕ) (at_s : Some s ≡ level_of o a) (at_k : Some k ≡ byte_of class) where
-    to_class : (rest : ℕ → ℕ → Served) → (found σ (level_of o a) NotALevel λ s'. found σ (natural class) Unknown λ k'. rest s' k') ≡ rest s k
-    to_class rest = found_some σ _ s NotALevel _ (sym at_s) ∙ found_some σ _ k Unknown _ (natural_byte class k at_k)
-
-    pub note_unknown : length program ≤ k → answer o program σ (note a class) ≡ refuse σ Unknown
-    note_unknown h = to_class _ ∙ require_false σ (ltb k (length program)) Unknown _ (le-ltb k (length program) h)
-
-    pub note_none : k < length program → None ≡ oldest (is_of k) (σ.notes s) → answer o program σ (note a class) ≡ refuse σ Nothing
-    note_none h e =
-        to_class _ ∙ require_true σ (ltb k (length program)) Unknown _ (lt-ltb k (length program) h)
-        ∙ found_none σ (oldest (is_of k) (σ.notes s)) Nothing _ (sym e)
-
-    pub note_some : (x : Placed Note) → k < length program → Some x ≡ oldest (is_of k) (σ.notes s) → answer o program σ (note a class) ≡ taken σ s x
-    note_some x h e =
-        to_class _ ∙ require_true σ (ltb k (length program)) Unknown _ (lt-ltb k (length program) h)
-        ∙ found_some σ (oldest (is_of k) (σ.notes s)) x Nothing _ (sym e)
-
-  -- POST
-
   module _ (a home number method : ℤ) (arguments : List Argument) (s h : ℕ) (at_s : Some s ≡ level_of o a) (at_h : Some h ≡ level_of o home) where
     abbrev on : ℕ → Served
     on n = posted o program σ s (name h n) (size method) arguments (verdict o program σ s (name h n) (natural method) (length arguments) true)
-
-    pub post_no_label : labels_stand o arguments ≡ false → answer o program σ (post a home number method arguments) ≡ refuse σ NotALevel
-    post_no_label e = both_levels a home number s h at_s at_h _ ∙ require_false σ (labels_stand o arguments) NotALevel _ e
-
-    pub post_some : (n : ℕ) → labels_stand o arguments ≡ true → Some n ≡ byte_of number → answer o program σ (post a home number method arguments) ≡ on n
-    post_some n e q =
-        both_levels a home number s h at_s at_h _ ∙ require_true σ (labels_stand o arguments) NotALevel _ e
-        ∙ found_some σ (natural number) n NotMade on (natural_byte number n q)
 
     pub post_no_byte : labels_stand o arguments ≡ true → None ≡ byte_of number → length (σ.objects h) ≤ 8
         → answer o program σ (post a home number method arguments) ≡ refuse σ NotMade

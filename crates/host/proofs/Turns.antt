@@ -1,15 +1,13 @@
 -- A turn's frame in memory, and the turn of the rules.
-use Rattle.std.proofs.Common.{◌≡◌, ℕ, ◌-◌, ◌≤◌, List, [], ◌∷◌, length, get_or, Some, refl, ap, ◌∙◌, arith}
+use Rattle.std.proofs.Common.{◌≡◌, ℕ, ◌≤◌, List, length, Some, ap, ◌∙◌, arith}
 use Rattle.order.specs.Levels.{Levels}
 use Rattle.script.specs.declared.class.Class.{Class as StoredClass}
 use Rattle.script.specs.declared.class.Statement.{Statement}
-use Rattle.script.specs.declared.class.Variable.TheVariants.{Local}
-use Rattle.script.specs.Bodies.{idle}
 use Rattle.script.specs.Classes.{classes_of}
 use Rattle.rules.specs.declared.values.Name.{Name}
 use Rattle.rules.specs.Tables.{State, Object, Call}
 use Rattle.rules.specs.Wrapper.{method_at}
-use Rattle.rules.specs.Turns.{before_last, statements_of, returned, exec, started, turned}
+use Rattle.rules.specs.Turns.{before_last, statements_of, exec, started, turned}
 use Rattle.stepper.specs.declared.turn.Outcome.{Outcome}
 use Rattle.stepper.specs.declared.turn.Outcome.TheVariants.{Ended, Held}
 use Rattle.stepper.specs.Halves.{StopsWithin}
@@ -31,7 +29,3 @@ turned-is o cs ds σ m n b c body e q =
 pub stops_short : (n : ℕ) (r : Outcome) → n ≤ 32 → StopsWithin n r → StopsWithin 32 r
 stops_short n Ended h s = tt
 stops_short n (Held at) h s = omega arith
-
-pub no_reply : (body : List Statement) → length body ≡ 0 → Local 0 ≡ returned (get_or body (length body - 1) idle)
-no_reply [] h = refl
-no_reply (s ∷ body) h = absurd (omega arith)

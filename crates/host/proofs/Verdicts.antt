@@ -57,7 +57,7 @@ module _ (o : Levels) (program : Program) (σ : State) (s : ℕ) (n : Name) (cou
   judged-has m d None e = let z : ◌≡◌ {A = ℕ} 0 1 = cc in absurd (omega arith)
   judged-has m d (Some b) e = flow_has m b d _ refl e
 
-  pub admitted_room : (m : Option ℕ) (d : Object) → admitted d ≡ verdict o program σ s n m count answered → room σ s answered ≡ true
+  admitted_room : (m : Option ℕ) (d : Object) → admitted d ≡ verdict o program σ s n m count answered → room σ s answered ≡ true
   admitted_room m d e = (judged-has m d _ e).space
 
   -- no method takes more than four
@@ -68,7 +68,7 @@ module _ (o : Levels) (program : Program) (σ : State) (s : ℕ) (n : Name) (cou
       let few = few_parameters 8 program ok h.class m h.method t.0 in
       let same = t.1 in omega arith
 
-  pub admitted_few : well_formed 8 program ≡ true → (m : Option ℕ) (d : Object) → admitted d ≡ verdict o program σ s n m count answered → count ≤ 4
+  admitted_few : well_formed 8 program ≡ true → (m : Option ℕ) (d : Object) → admitted d ≡ verdict o program σ s n m count answered → count ≤ 4
   admitted_few ok m d e = has_few ok m (judged-has m d _ e)
 
   -- a method's number that is no byte is that of no method
@@ -88,14 +88,35 @@ module _ (o : Levels) (program : Program) (σ : State) (s : ℕ) (n : Name) (cou
   byte_judged ok z None = refl
   byte_judged ok z (Some b) = ap (λ m. judged_flow o program σ s n.home answered b (taking count m)) (byte_method ok b.class z)
 
-  pub byte_verdict : well_formed 8 program ≡ true → (z : ℤ)
+  byte_verdict : well_formed 8 program ≡ true → (z : ℤ)
       → verdict o program σ s n (byte_of z) count answered ≡ verdict o program σ s n (natural z) count answered
   byte_verdict ok z = byte_judged ok z (object_for o program σ s n)
 
 -- the same classes and the same method get the same verdict
-pub same_verdict : (o : Levels) (σ : State) (s : ℕ) (n : Name) (count : ℕ) (answered : Bool) {cs ds : List StoredClass} {l m : Option ℕ} → cs ≡ ds → l ≡ m
+same_verdict : (o : Levels) (σ : State) (s : ℕ) (n : Name) (count : ℕ) (answered : Bool) {cs ds : List StoredClass} {l m : Option ℕ} → cs ≡ ds → l ≡ m
     → verdict o (classes_of cs) σ s n l count answered ≡ verdict o (classes_of ds) σ s n m count answered
 same_verdict o σ s n count answered e q = λ i. verdict o (classes_of (e i)) σ s n (q i) count answered
+
+-- a posted call, judged by the classes that were lent and the byte that its method's number is
+module _ (o : Levels) (classes : List StoredClass) (σ : State) (s : ℕ) (n : Name) (method : ℤ) (count : ℕ) (r : Verdict) where
+  -- its verdict by the rules, and what an admitted call has
+  pub record Judged : Type 0 where
+    pub formed : well_formed 8 (classes_of classes) ≡ true
+    pub is : r ≡ verdict o (classes_of classes) σ s n (byte_of method) count true
+    pub space : (b : Object) → r ≡ admitted b → room σ s true ≡ true
+    pub few : (b : Object) → r ≡ admitted b → count ≤ 4
+
+  pub judged-by : {lent : List StoredClass} {m : Option ℕ} → lent ≡ classes → well_formed 8 (classes_of lent) ≡ true → m ≡ byte_of method
+      → r ≡ verdict o (classes_of lent) σ s n m count true → Judged
+  judged-by e ok q v =
+      let formed = ap (λ cs. well_formed 8 (classes_of cs)) (sym e) ∙ ok in
+      let is = v ∙ same_verdict o σ s n count true e q in
+      record {
+        formed = formed;
+        is = is;
+        space = λ b k. admitted_room o (classes_of classes) σ s n count true (byte_of method) b (sym k ∙ is);
+        few = λ b k. admitted_few o (classes_of classes) σ s n count true formed (byte_of method) b (sym k ∙ is);
+      }
 
 -- the answer to a post, by the verdict on it
 module _ (o : Levels) (program : Program) (σ τ : State) (s : ℕ) (n : Name) (method : ℤ) (arguments : List Argument) (ok : well_formed 8 program ≡ true) where

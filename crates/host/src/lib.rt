@@ -14,6 +14,7 @@ mod posting;
 mod reading;
 mod serving;
 mod stopping;
+mod taken;
 mod turning;
 
 pub use serving::{Served, serve};

@@ -1,7 +1,7 @@
 //! A new host, and loading a script text into it.
 ghost use Rattle.std.specs.Prelude.{◌≡◌, None};
 ghost use Rattle.rules.specs.Tables.{new};
-ghost use Rattle.host.specs.Hosts.{state_in, Loads, load_number};
+ghost use Rattle.host.specs.Hosts.{state_in, Loads, refusal_of, load_number};
 
 use crate::host::Host;
 use order::Order;
@@ -11,7 +11,7 @@ use std::alloc::Global;
 use store::tables::Tables;
 
 /// Why a text was not loaded. Nothing is altered then.
-#[derive(Clone, Copy)]
+#[derive(Clone, Copy, Debug)]
 pub enum LoadRefusal {
     /// 8: a text is loaded already; this one was not looked at.
     AlreadyLoaded,
@@ -23,6 +23,7 @@ pub enum LoadRefusal {
 
 impl LoadRefusal {
     /// The number that the refusal returns; none for want of memory.
+    // By a match: one variant carries a fault, and one has no number.
     pub fn number(self) -> Option<u8>
         ensures { result ≡ load_number self }
     {
@@ -30,6 +31,17 @@ impl LoadRefusal {
             LoadRefusal::AlreadyLoaded => Some(8),
             LoadRefusal::Faulty(_) => Some(7),
             LoadRefusal::Memory => None,
+        }
+    }
+}
+
+impl From<LoadError> for LoadRefusal {
+    ghost from_gives = { λ e r. r ≡ refusal_of e };
+
+    fn from(e: LoadError) -> LoadRefusal {
+        match e {
+            LoadError::Fault(fault) => LoadRefusal::Faulty(fault),
+            LoadError::Memory => LoadRefusal::Memory,
         }
     }
 }
@@ -58,13 +70,7 @@ impl Host {
         if self.program.is_some() {
             return Err(LoadRefusal::AlreadyLoaded);
         }
-        match load(heap, order, text) {
-            Ok(program) => {
-                self.program = Some(program);
-                Ok(())
-            }
-            Err(LoadError::Fault(fault)) => Err(LoadRefusal::Faulty(fault)),
-            Err(LoadError::Memory) => Err(LoadRefusal::Memory),
-        }
+        self.program = Some(load(heap, order, text)?);
+        Ok(())
     }
 }

@@ -12,29 +12,22 @@ use wrapper::classes::find_method;
 pub fn statements_of(classes: &[Class], class: u8, method: u8) -> &[Statement]
     ensures { result.now ≡ statements_of (method_at (classes_of classes.now) class (Some method)) }
 {
-    match find_method(classes, class, method) {
-        Some(found) => found.statements.as_slice(),
-        None => &[],
-    }
+    find_method(classes, class, method).map_or(&[], |found| found.statements.as_slice())
 }
 
 /// The statements before the last, which is the R.
 pub fn before_last(statements: &[Statement]) -> &[Statement]
     ensures { result.now ≡ before_last statements.now }
 {
-    &statements[0..statements.len().saturating_sub(1)]
+    statements.split_last().map_or(&[], |(_, before)| before)
 }
 
 /// The variable that the last statement, an R, gives back.
 pub fn reply_variable(statements: &[Statement]) -> Variable
     ensures { result ≡ returned (slice_index_or statements.now (length statements.now - 1) idle) }
 {
-    let count = statements.len();
-    if count == 0 {
-        return Variable::Local(0);
-    }
-    match statements[count - 1] {
-        Statement::Return { value } => value,
+    match statements.last() {
+        Some(Statement::Return { value }) => *value,
         _ => Variable::Local(0),
     }
 }

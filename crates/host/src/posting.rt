@@ -1,7 +1,7 @@
 //! Posting a call to an object.
 ghost use Rattle.std.specs.Prelude.{◌≡◌, ◌<◌, ◌≤◌, true, map, length, take};
 ghost use Rattle.rules.specs.Calling.{post, argument_value};
-ghost use Rattle.host.specs.Hosts.{Delivers, Answers};
+ghost use Rattle.host.specs.Hosts.{told, Delivers, Answers};
 
 use crate::arguments::first_values;
 use crate::calls::classes_of;
@@ -16,7 +16,8 @@ use wrapper::noting::Place;
 use wrapper::sending::{Sending, send};
 
 impl Host {
-    /// Sends a call with these arguments, whose values are the first of `values`, to the object of a name, if its wrapper admits the call.
+    /// Sends a call with these arguments, whose values are the first of `values`, to the object of a name; gives the reply's future, or why its
+    /// wrapper does not admit the call.
     fn deliver<O: Order>(
         &mut self,
         order: &O,
@@ -25,10 +26,10 @@ impl Host {
         method: i32,
         arguments: &[Argument],
         values: &[Labelled; 4],
-    ) -> Answer
+    ) -> Result<Name, Refusal>
         requires level { level < 8 }
         requires values { length arguments.now ≤ 4 → take (length arguments.now) values.now ≡ map argument_value arguments.now }
-        ensures { Delivers (O.Order.levels order.now) self.old level receiver method arguments.now result self.new }
+        ensures { Delivers (O.Order.levels order.now) self.old level receiver method arguments.now (told Answer.Posted result) self.new }
     {
         let method = byte(method);
         let asked = Asked {
@@ -38,10 +39,7 @@ impl Host {
             count: arguments.len(),
             answered: true,
         };
-        let object = match admit(order, classes_of(&self.program), &self.tables, &asked) {
-            Ok(object) => object,
-            Err(why) => return Answer::Refused(why),
-        };
+        let object = admit(order, classes_of(&self.program), &self.tables, &asked)?;
         let method = method.unwrap();
         let sending = Sending {
             level,
@@ -63,13 +61,14 @@ impl Host {
             &object,
             &values[0..arguments.len()],
         );
-        Answer::Posted(Name {
+        Ok(Name {
             home: level,
             number: owed.unwrap(),
         })
     }
 
     /// Calls a method of the object of a name with some numbers, each with its label; answers the future of the reply, or why not.
+    // The numbers come apart, as they were sent: home and number are a name only once both were judged, and the labels are judged between them.
     pub fn post<O: Order>(
         &mut self,
         order: &O,
@@ -81,18 +80,26 @@ impl Host {
     ) -> Answer
         ensures { Answers (O.Order.levels order.now) self.old (post bearer home number method arguments.now) result self.new }
     {
-        let Some(level) = level_of(order, bearer) else {
-            return Answer::Refused(Refusal::NotALevel);
-        };
-        let Some(home) = level_of(order, home) else {
-            return Answer::Refused(Refusal::NotALevel);
-        };
-        let Some(values) = first_values(order, arguments) else {
-            return Answer::Refused(Refusal::NotALevel);
-        };
-        let Some(number) = byte(number) else {
-            return Answer::Refused(Refusal::NotMade);
-        };
+        self.try_post(order, bearer, home, number, method, arguments)
+            .map_or_else(Answer::Refused, Answer::Posted)
+    }
+
+    /// The name of the reply's future, or why not.
+    fn try_post<O: Order>(
+        &mut self,
+        order: &O,
+        bearer: i32,
+        home: i32,
+        number: i32,
+        method: i32,
+        arguments: &[Argument],
+    ) -> Result<Name, Refusal>
+        ensures { Answers (O.Order.levels order.now) self.old (post bearer home number method arguments.now) (told Answer.Posted result) self.new }
+    {
+        let level = level_of(order, bearer)?;
+        let home = level_of(order, home)?;
+        let values = first_values(order, arguments)?;
+        let number = byte(number).ok_or(Refusal::NotMade)?;
         self.deliver(
             order,
             level,

@@ -12,11 +12,7 @@ use store::tables::Tables;
 pub fn find_future<O: Order>(order: &O, tables: &Tables, level: Level, name: Name) -> Option<Future>
     ensures { result ≡ future_for (O.Order.levels order.now) [] (state_of tables.now) level name }
 {
-    if order.flows(name.home, level) {
-        tables.future(name)
-    } else {
-        None
-    }
+    tables.futures.find(order, level, name)
 }
 
 /// The value as a party may see it at a level: as it is where its label flows there, else the mark *withheld*.

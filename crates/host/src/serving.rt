@@ -15,7 +15,7 @@ use rules::calls::{Answer, Request};
 use script::fault::LoadError;
 use script::load;
 use script::program::Program;
-use std::alloc::{AllocError, Global};
+use std::alloc::Global;
 use store::tables::Tables;
 
 /// What serving a list came to: the answers, in order, and the host after them.
@@ -70,11 +70,12 @@ impl Host {
         heap: Global,
         order: &O,
         requests: &[Request],
-    ) -> Result<Vec<Answer>, AllocError>
-        ensures served { IfOk result (λ v. run_from (O.Order.levels order.now) (program_in self.old) (state_in self.old) (map request_of requests.now) ≡ record { answers = v.items; state = state_in self.new }) }
+    ) -> Result<Vec<Answer>, LoadError>
+        ensures served { MatchResult result (λ v. run_from (O.Order.levels order.now) (program_in self.old) (state_in self.old) (map request_of requests.now) ≡ record { answers = v.items; state = state_in self.new }) (λ e. e ≡ Memory) }
         ensures program { self.new.program ≡ self.old.program }
     {
         let mut answers = Vec::new(heap);
+        // A `for`: with `map` and `collect` the proof did not close, since nothing is known of a host that a closure altered.
         for request in requests {
             let answer = self.answer(order, request);
             answers.push(answer)?;
@@ -96,10 +97,8 @@ fn serve_program<O: Order>(
         program: Some(program),
         tables: Tables::new(),
     };
-    match host.answer_all(heap, order, requests) {
-        Ok(answers) => Ok(Served { answers, host }),
-        Err(_) => Err(LoadError::Memory),
-    }
+    let answers = host.answer_all(heap, order, requests)?;
+    Ok(Served { answers, host })
 }
 
 /// From new, loads a script text under an order and serves a list of requests; gives the answers and the host after them, or the text's first
@@ -127,8 +126,6 @@ pub fn serve<O: Order>(
     ensures kept { IfOk result (KeepsValues (O.Order.levels order.now) (map request_of requests.now)) }
     ensures refusals { RefusalsAlterNothing }
 {
-    match load(heap, order, text) {
-        Ok(program) => serve_program(heap, order, program, requests),
-        Err(e) => Err(e),
-    }
+    let program = load(heap, order, text)?;
+    serve_program(heap, order, program, requests)
 }

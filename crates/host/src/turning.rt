@@ -5,15 +5,15 @@ ghost use Rattle.rules.specs.Tables.{object_of, call_of};
 ghost use Rattle.rules.specs.Turns.{turned as turned_by};
 ghost use Rattle.rules.specs.Calling.{turn};
 ghost use Rattle.statements.specs.Turning.{running_of};
-ghost use Rattle.host.specs.Hosts.{program_in, state_in, Answers};
+ghost use Rattle.host.specs.Hosts.{program_in, state_in, told, Answers};
 
 use crate::calls::classes_of;
 use crate::host::Host;
 use crate::methods::{before_last, statements_of};
 use crate::numbers::{byte, level as level_of};
-use order::{Level, Order};
+use crate::taken::Taken;
+use order::Order;
 use rules::calls::{Answer, Refusal};
-use rules::tables::{Call, Object};
 use rules::values::Name;
 use statements::frame::Frame;
 use statements::turn::take_turn;
@@ -30,30 +30,24 @@ pub struct Turned {
 }
 
 impl Host {
-    /// Carries out a call at a level for an object, as far as it goes.
-    fn carry_out<O: Order>(
-        &mut self,
-        order: &O,
-        level: Level,
-        name: Name,
-        object: &Object,
-        call: &Call,
-    ) -> Turned
-        requires { level < (O.Order.levels order.now).count }
-        ensures does { ends result.outcome (running_of result.variables (state_in self.new)) ≡ turned_by (O.Order.levels order.now) (program_in self.old) (state_in self.old) level name (object_of object.now) (call_of call.now) }
+    /// Carries out a call that was taken up, as far as it goes.
+    fn carry_out<O: Order>(&mut self, order: &O, taken: &Taken) -> Turned
+        requires { taken.now.level < (O.Order.levels order.now).count }
+        ensures does { ends result.outcome (running_of result.variables (state_in self.new)) ≡ turned_by (O.Order.levels order.now) (program_in self.old) (state_in self.old) taken.now.level taken.now.name (object_of taken.now.object) (call_of taken.now.call) }
         ensures place { StopsWithin 32 result.outcome }
         ensures program { self.new.program ≡ self.old.program }
     {
+        let Taken { object, call, .. } = taken;
         let classes = classes_of(&self.program);
         let frame = Frame {
             classes,
             fields: fields_of(classes, object.class),
             body: before_last(statements_of(classes, object.class, call.method)),
-            this: name,
+            this: taken.name,
             class: object.class,
             level: object.level,
             method: call.method,
-            called_at: level,
+            called_at: taken.level,
             from: call.next as usize,
         };
         let mut variables = Variables {
@@ -68,23 +62,38 @@ impl Host {
     pub fn turn<O: Order>(&mut self, order: &O, bearer: i32, home: i32, number: i32) -> Answer
         ensures { Answers (O.Order.levels order.now) self.old (turn bearer home number) result self.new }
     {
-        let Some(level) = level_of(order, bearer) else {
-            return Answer::Refused(Refusal::NotALevel);
-        };
-        let Some(home) = level_of(order, home) else {
-            return Answer::Refused(Refusal::NotALevel);
-        };
-        let Some(number) = byte(number) else {
-            return Answer::Refused(Refusal::NotMade);
-        };
+        self.try_turn(order, bearer, home, number)
+            .unwrap_or_else(Answer::Refused)
+    }
+
+    /// Whether the call ended or is held, or why there is no turn.
+    fn try_turn<O: Order>(
+        &mut self,
+        order: &O,
+        bearer: i32,
+        home: i32,
+        number: i32,
+    ) -> Result<Answer, Refusal>
+        ensures { Answers (O.Order.levels order.now) self.old (turn bearer home number) (told (λ r. r) result) self.new }
+    {
+        let level = level_of(order, bearer)?;
+        let home = level_of(order, home)?;
+        let number = byte(number).ok_or(Refusal::NotMade)?;
         let name = Name { home, number };
-        let Some(object) = find_object(order, &self.tables, level, name) else {
-            return Answer::Refused(Refusal::NotMade);
+        let object = find_object(order, &self.tables, level, name).ok_or(Refusal::NotMade)?;
+        let (place, call) = self
+            .tables
+            .calls
+            .oldest(level as usize, name)
+            .ok_or(Refusal::Nothing)?;
+        let taken = Taken {
+            level,
+            name,
+            object,
+            place,
+            call,
         };
-        let Some((place, call)) = self.tables.oldest_call(level as usize, name) else {
-            return Answer::Refused(Refusal::Nothing);
-        };
-        let turned = self.carry_out(order, level, name, &object, &call);
-        self.stop(order, level, name, &object, place, &call, &turned)
+        let turned = self.carry_out(order, &taken);
+        Ok(self.stop(order, &taken, &turned))
     }
 }

@@ -1,43 +1,32 @@
-use Rattle.std.proofs.Common.{map}
+use Rattle.std.proofs.Common.{map, rules}
 use Rattle.script.specs.Programs.{program_of}
 use Rattle.script.specs.Reading.{reading}
 use Rattle.rules.specs.Calling.{request_of}
 use Rattle.rules.proofs.Lawful.{refusals_alter_nothing}
-use Rattle.host.proofs.Promised.{failed_run, exact, loaded, secret, labels, levels, owed, kept}
+use Rattle.host.proofs.Promised.{secret, labels, levels, owed, kept}
 use Rattle.host.proofs.serving.serve.Goals as goal
 
-pub returns-in-Ok : goal.returns-in-Ok
-returns-in-Ok g c =
+pub returns-in_err-program-clause-refusals : goal.returns-in_err-program-clause-refusals
+returns-in_err-program-clause-refusals g c = refusals_alter_nothing
+
+pub returns : goal.returns
+returns g c =
     let o = g.O.Order.levels c.args.order.now in
     let laws = g.met.O.Order.lawful c.args.order.now in
-    let program = program_of c.in-Ok.program in
+    let program = program_of c.in_ok-program.program in
     let text = c.args.text.now in
     let requests = map request_of c.args.requests.now in
-    let e = c.in-Ok.ensures in
+    let e = c.in_ok-program.ensures in
     let formed = ((e.exactly text program).0 e.reads).1 in
     let r = c.serve_program.result in
     let h = c.serve_program.ensures in
     record {
-      exact = exact o laws (reading o.count text) program requests e.reads formed r h;
-      loaded = loaded o laws (reading o.count text) program requests e.reads formed r h;
+      exact = search rules;
+      loaded = search rules;
       secret = secret o laws (reading o.count text) program requests e.reads formed r h;
       labels = labels o laws (reading o.count text) program requests e.reads formed r h;
       levels = levels o laws (reading o.count text) program requests e.reads formed r h;
       owed = owed o laws (reading o.count text) program requests e.reads formed r h;
       kept = kept o laws (reading o.count text) program requests e.reads formed r h;
-      refusals = refusals_alter_nothing;
-    }
-
-pub returns-in-Err : goal.returns-in-Err
-returns-in-Err g c =
-    let o = g.O.Order.levels c.args.order.now in
-    record {
-      exact = failed_run o (reading o.count c.args.text.now) (map request_of c.args.requests.now) c.in-Err.e c.in-Err.ensures.reads;
-      loaded = tt;
-      secret = tt;
-      labels = tt;
-      levels = tt;
-      owed = tt;
-      kept = tt;
       refusals = refusals_alter_nothing;
     }

@@ -10,24 +10,26 @@ use Rattle.host.specs.Hosts.{classes_in, state_in}
 use Rattle.host.proofs.Turns.{body_in, turned-is, stops_short}
 use Rattle.host.proofs.host.Host.carry_out.Goals as goal
 
-pub take_turn-outcome-requires : goal.take_turn-outcome-requires
-take_turn-outcome-requires g c =
+pub invariant_of-frame : goal.invariant_of-frame
+invariant_of-frame g c =
     let cs = c.classes_of-classes.result.now in
     let ok = c.classes_of-classes.ensures.formed in
-    let class = c.args.object.now.class in
-    let method = c.args.call.now.method in
+    let class = c.args.taken.now.object.class in
+    let method = c.args.taken.now.call.method in
     let body : c.before_last.result.now ≡ body_in cs class method = c.before_last.ensures ∙ ap before_last c.statements_of.ensures in
     let fields = c.fields_of.ensures in
     record {
-      framed =
-          record {
-            fields = fields;
-            ranges = (λ i. every (in_range 8 (length (fields i))) (body i)) ∙ body_ranges 8 (classes_of cs) ok class method;
-            short = subst (λ (b : List Statement). length b ≤ 32) (sym body) (body_short 8 (classes_of cs) ok class method);
-          };
-      level = c.requires;
-      nested = ap (λ b. nested (length b) b 4 0 (length b)) body ∙ body_nests 8 (classes_of cs) ok class method;
+      declared = fields;
+      ranges = (λ i. every (in_range 8 (length (fields i))) (body i)) ∙ body_ranges 8 (classes_of cs) ok class method;
+      short = subst (λ (b : List Statement). length b ≤ 32) (sym body) (body_short 8 (classes_of cs) ok class method);
     }
+
+pub take_turn-outcome-requires-clause-nested : goal.take_turn-outcome-requires-clause-nested
+take_turn-outcome-requires-clause-nested g c =
+    let cs = c.classes_of-classes.result.now in
+    let body : c.before_last.result.now ≡ body_in cs c.args.taken.now.object.class c.args.taken.now.call.method = c.before_last.ensures ∙ ap before_last c.statements_of.ensures in
+    ap (λ b. nested (length b) b 4 0 (length b)) body
+    ∙ body_nests 8 (classes_of cs) c.classes_of-classes.ensures.formed c.args.taken.now.object.class c.args.taken.now.call.method
 
 pub returns : goal.returns
 returns g c =
@@ -35,14 +37,14 @@ returns g c =
     let h = c.args.self.now in
     let cs = c.classes_of-classes.result.now in
     let ok = c.classes_of-classes.ensures.formed in
-    let class = c.args.object.now.class in
-    let method = c.args.call.now.method in
+    let class = c.args.taken.now.object.class in
+    let method = c.args.taken.now.call.method in
     let body : c.before_last.result.now ≡ body_in cs class method = c.before_last.ensures ∙ ap before_last c.statements_of.ensures in
     let short : length c.before_last.result.now ≤ 32 = subst (λ (b : List Statement). length b ≤ 32) (sym body) (body_short 8 (classes_of cs) ok class method) in
     record {
       does =
           c.take_turn-outcome.ensures.does
-          ∙ turned-is o cs (classes_in h.program) (state_in h) c.args.level c.args.name (object_of c.args.object.now) (call_of c.args.call.now) c.before_last.result.now
+          ∙ turned-is o cs (classes_in h.program) (state_in h) c.args.taken.now.level c.args.taken.now.name (object_of c.args.taken.now.object) (call_of c.args.taken.now.call) c.before_last.result.now
           c.classes_of-classes.ensures.is body;
       place = stops_short (length c.before_last.result.now) c.take_turn-outcome.result short c.take_turn-outcome.ensures.place;
       program = refl;
