@@ -18,14 +18,11 @@ use std::io::Read;
 /// Standard input, up to the first byte past the most that are served.
 fn read_input(rt: &HostRuntime) -> anyhow::Result<Vec<u8>> {
     let mut input = Vec::new(rt.alloc());
-    match rt
-        .stdin()
+    rt.stdin()
         .take(MOST_BYTES as u64 + 1)
         .read_to_end(&mut input)
-    {
-        Ok(_) => Ok(input),
-        Err(_) => Err(anyhow!("standard input cannot be read")),
-    }
+        .map_err(|_| anyhow!("standard input cannot be read"))?;
+    Ok(input)
 }
 
 /// The table that is printed for an input, or want of memory.

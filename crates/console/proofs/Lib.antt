@@ -3,4 +3,3 @@ mod Exactly
 mod Lining
 mod Parting
 mod Sorting
-mod Tabling

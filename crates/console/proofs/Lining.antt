@@ -1,49 +1,84 @@
--- The first line of some bytes, as a loop comes to it, and the rows that it leaves.
-use Rattle.std.proofs.Common.{◌≡◌, ℕ, suc, ◌+◌, ◌-◌, ◌<◌, true, false, eqb, List, [], ◌∷◌, ◌++◌, length, get_or, take, drop, Some, None, Option, sym, refl, ap, ◌∙◌, inl, inr, append_assoc, append-nil, arith}
-use Rattle.std.proofs.lemmas.Bool.{cases_Bool, cond-true, cond-false, eq-eqb, ne_eqb, eqb-true}
-use Rattle.std.proofs.lemmas.List.{take_more, drop_more, take_rest}
-use Rattle.console.specs.Requests.{row_request, line_on, unended, rows_after}
+-- One line after the other, as a loop comes to them, and the row that each is.
+use Rattle.std.proofs.Common.{◌≡◌, ℕ, suc, ◌+◌, ◌-◌, ◌<◌, Bool, true, false, eqb, List, [], ◌∷◌, ◌++◌, length, get_or, take, drop, min, None, sym, refl, ap, ◌∙◌, subst, inl, inr, append_assoc, append-nil, arith}
+use Rattle.std.specs.List.{All, IsFirstMatchOrLen}
+use Rattle.std.specs.Str.{bytes_eq}
+use Rattle.std.proofs.lemmas.Bool.{cases_Bool, cases_lt, cond-true, cond-false, and_from, and_left}
+use Rattle.std.proofs.lemmas.List.{take_more, take_all, take_at, drop_at, get_or-take, get_or_append_left, length-take, nil_from_length, length_push, length-append}
+use Rattle.console.specs.Requests.{row_request, line_request, unended, rows_after, rows}
 
-no_some : {A X : Type 0} {x : X} {y : Option X} → y ≡ None → y ≡ Some x → A
-no_some {x = x} {y = y} p q = let z : ◌≡◌ {A = ℕ} 0 1 = cc in absurd (omega arith)
+-- bytes of which none is a line feed
+abbrev Plain : List ℕ → Type 0
+Plain bs = All (λ b. eqb b 10 ≡ false) bs
 
--- one more byte, which is no line feed
-pub line_more : (xs : List ℕ) (i : ℕ) → i < length xs → (get_or xs i 0 ≡ 10 → ⊥) → line_on (take (i + 1) xs) (drop (i + 1) xs) ≡ line_on (take i xs) (drop i xs)
-line_more xs i h n = rw (take_more xs i 0 h, drop_more xs i 0 h) (sym (cond-false _ _ _ (ne_eqb _ _ n)))
+-- a row's bytes are passed
+passed : (front row rest : List ℕ) → Plain row → rows_after front (row ++ rest) ≡ rows_after (front ++ row) rest
+passed front [] rest h = ap (λ f. rows_after f rest) (sym (append-nil front))
+passed front (b ∷ row) rest h =
+    cond-false _ _ _ (h 0 0 (omega arith))
+    ∙ passed (front ++ b ∷ []) row rest (λ k d l. h (suc k) d (omega (arith, l)))
+    ∙ ap (λ f. rows_after f rest) (append_assoc front (b ∷ []) row)
 
--- a line feed: what was passed is the line
-pub line_ends : (xs : List ℕ) (i : ℕ) → i < length xs → get_or xs i 0 ≡ 10 → line_on (take i xs) (drop i xs) ≡ Some (take (i - 0) xs, take (length xs - (i + 1)) (drop (i + 1) xs))
-line_ends xs i h e =
-    let z : i - 0 ≡ i = omega arith in
-    rw (drop_more xs i 0 h, z, take_rest xs (i + 1)) (cond-true _ _ _ (eq-eqb _ _ e))
+-- a byte after a row
+module _ (row : List ℕ) (b : ℕ) where
+  abbrev line : List ℕ
+  line = row ++ b ∷ []
 
-same_row : (front bs l rest : List ℕ) → ◌≡◌ {A = Option (List ℕ × List ℕ)} (Some (front, bs)) (Some (l, rest)) → row_request front ∷ rows_after [] bs ≡ row_request l ∷ rows_after [] rest
-same_row front bs l rest h =
-    let p : ◌≡◌ {A = List ℕ × List ℕ} (front, bs) (l, rest) = cc in
-    ap (λ (x : List ℕ × List ℕ). row_request x.0 ∷ rows_after [] x.1) p
+  before : length line - 1 ≡ length row
+  before = omega (arith, length_push row b)
 
--- where there is a first line, it is the first row, and the others are those of what follows
-pub rows_line : (front bs l rest : List ℕ) → line_on front bs ≡ Some (l, rest) → rows_after front bs ≡ row_request l ∷ rows_after [] rest
-rows_line front [] l rest h = no_some refl h
-rows_line front (b ∷ bs) l rest h =
-    elim (cases_Bool (eqb b 10)) [
-      | inl e ↦ cond-true _ _ _ e ∙ same_row front bs l rest (sym (cond-true _ _ _ e) ∙ h)
-      | inr e ↦ cond-false _ _ _ e ∙ rows_line (front ++ b ∷ []) bs l rest (sym (cond-false _ _ _ e) ∙ h)
+  last : drop (length line - 1) line ≡ b ∷ []
+  last = ap (λ k. drop k line) before ∙ drop_at row (b ∷ []) (length row) refl
+
+  others : take (length line - 1) line ≡ row
+  others = ap (λ k. take k line) before ∙ take_at row (b ∷ []) (length row) refl
+
+  fed : eqb b 10 ≡ true → line_request line ≡ row_request row
+  fed e = cond-true _ _ _ (ap (λ bs. bytes_eq bs (10 ∷ [])) last ∙ and_from (eqb b 10) true e refl) ∙ ap row_request others
+
+  unfed : eqb b 10 ≡ false → line_request line ≡ None
+  unfed e = cond-false _ _ _ (ap (λ bs. bytes_eq bs (10 ∷ [])) last ∙ and_left (eqb b 10) true e)
+
+unended_line : (row : List ℕ) (b : ℕ) → unended (row ++ b ∷ []) ≡ None ∷ []
+unended_line [] b = refl
+unended_line (a ∷ row) b = refl
+
+rows_line : (row : List ℕ) (b : ℕ) (rest : List ℕ) → Plain row → (eqb b 10 ≡ false → rest ≡ []) → rows ((row ++ b ∷ []) ++ rest) ≡ line_request (row ++ b ∷ []) ∷ rows rest
+rows_line row b rest h end =
+    ap rows (append_assoc row (b ∷ []) rest)
+    ∙ passed [] row (b ∷ rest) h
+    ∙ elim (cases_Bool (eqb b 10)) [
+      | inl e ↦ cond-true _ _ _ e ∙ ap (λ x. x ∷ rows rest) (sym (fed row b e))
+      | inr e ↦
+          ap (λ bs. rows_after row (b ∷ bs)) (end e)
+          ∙ cond-false _ _ _ e
+          ∙ unended_line row b
+          ∙ ap (λ x. x ∷ []) (sym (unfed row b e))
+          ∙ ap (λ bs. line_request (row ++ b ∷ []) ∷ rows bs) (sym (end e))
     ]
 
--- where there is none, what is left is no row
-pub rows_end : (front bs : List ℕ) → line_on front bs ≡ None → rows_after front bs ≡ unended (front ++ bs)
-rows_end front [] h = rw append-nil
-rows_end front (b ∷ bs) h =
-    elim (cases_Bool (eqb b 10)) [
-      | inl e ↦ no_some h (cond-true _ _ _ e)
-      | inr e ↦ cond-false _ _ _ e ∙ rows_end (front ++ b ∷ []) bs (sym (cond-false _ _ _ e) ∙ h) ∙ ap unended (append_assoc front (b ∷ []) bs)
-    ]
+both : {A : Type 0} {b : Bool} → b ≡ true → b ≡ false → A
+both p q = let z : ◌≡◌ {A = ℕ} 0 1 = cc in absurd (omega arith)
 
-pub unended-some : (bs : List ℕ) → eqb (length bs) 0 ≡ false → unended bs ≡ None ∷ []
-unended-some [] h = let z : ◌≡◌ {A = ℕ} 0 1 = cc in absurd (omega arith)
-unended-some (b ∷ bs) h = refl
-
-pub rows_none : (bs : List ℕ) → eqb (length bs) 0 ≡ true → rows_after [] bs ≡ []
-rows_none [] h = refl
-rows_none (b ∷ bs) h = let z = eqb-true (suc (length bs)) 0 h in absurd (omega arith)
+-- x is the next line, and what follows it is left
+pub next_line : (left x rest : List ℕ) (i : ℕ) → left ≡ x ++ rest → length x ≡ min (i + 1) (length left) → IsFirstMatchOrLen (λ b. eqb b 10) left i → 0 < length left → rows left ≡ line_request x ∷ rows rest
+next_line left x rest i e n first some =
+    let k = length x - 1 in
+    let total : length left ≡ length x + length rest = ap length e ∙ length-append x rest in
+    let within : k < length x = omega (arith, n, some) in
+    let ends : k + 1 ≡ length x = omega (arith, within) in
+    let parts : take k x ++ get_or x k 0 ∷ [] ≡ x = sym (take_more x k 0 within) ∙ take_all (k + 1) x (omega (arith, ends)) in
+    let same : (j d : ℕ) → j < length x → get_or left j d ≡ get_or x j d = λ j d l. ap (λ bs. get_or bs j d) e ∙ get_or_append_left x rest d j l in
+    let plain : Plain (take k x) =
+    λ j d l.
+    let short : j < k = omega (arith, l, length-take k x) in
+    let here : get_or left j d ≡ get_or (take k x) j d = same j d (omega (arith, short)) ∙ sym (get_or-take k x j d short) in
+    subst (λ b. eqb b 10 ≡ false) here (first.0 j d (omega arith) (omega (arith, n, short))) in
+    let end : eqb (get_or x k 0) 10 ≡ false → rest ≡ [] =
+    λ h. elim (cases_lt i (length left)) [
+      | inr l ↦ nil_from_length rest (omega (arith, total, n, l))
+      | inl l ↦
+          let at : i ≡ k = omega (arith, n, l) in
+          let fed : eqb (get_or x k 0) 10 ≡ true = subst (λ j. eqb (get_or x j 0) 10 ≡ true) at (subst (λ b. eqb b 10 ≡ true) (same i 0 (omega (arith, n, l))) (first.1 l 0)) in
+          both fed h
+    ] in
+    ap rows e ∙ subst (λ y. rows (y ++ rest) ≡ line_request y ∷ rows rest) parts (rows_line (take k x) (get_or x k 0) rest plain end)

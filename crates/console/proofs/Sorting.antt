@@ -1,22 +1,8 @@
 -- Rows sorted into requests and what could be read, as a loop takes them in.
-use Rattle.std.proofs.Common.{◌≡◌, true, List, [], ◌∷◌, ◌++◌, map, Some, None, vec_items, Option, sym, refl, ap, ◌∙◌, subst, append_assoc, append-nil}
-use mathlib.Core.List.{map-append}
-use Rattle.rules.specs.declared.calls.Request.{Request as StoredRequest}
-use Rattle.rules.specs.Calling.{Request, request_of}
-use Rattle.console.specs.declared.rows.CallRow.{CallRow}
-use Rattle.console.specs.declared.rows.CallRow.TheVariants.{Call}
-use Rattle.console.specs.declared.rows.Rows.{Rows}
+use Rattle.std.proofs.Common.{◌≡◌, List, [], ◌∷◌, ◌++◌, Some, None, vec_items, Option, sym, refl, ap, ◌∙◌, append_assoc, append-nil}
+use Rattle.rules.specs.Calling.{Request}
 use Rattle.console.specs.declared.calls.Calls.{Calls}
-use Rattle.console.specs.Requests.{rows}
-use Rattle.console.specs.Rows.{called, requested, says_one, readable, kept, Sorted, Grown, NextRow}
-
--- a request more
-pub grown : (row : CallRow) (q : StoredRequest) (old new : Calls) → row ≡ Call q → vec_items new.requests ≡ vec_items old.requests ++ q ∷ [] → vec_items new.readable ≡ vec_items old.readable ++ true ∷ [] → Grown (called row) old new
-grown row q old new e p r =
-    record {
-      asks = ap (map request_of) p ∙ map-append request_of (vec_items old.requests) (q ∷ []) ∙ ap (λ x. kept old ++ requested (called x ∷ [])) (sym e);
-      tells = r ∙ ap (λ x. vec_items old.readable ++ says_one (called x) ∷ []) (sym e);
-    }
+use Rattle.console.specs.Rows.{requested, says_one, readable, kept, Sorted, Grown}
 
 -- the requests of a row and of others
 requested_more : (x : Option Request) (xs : List (Option Request)) → requested (x ∷ []) ++ requested xs ≡ requested (x ∷ xs)
@@ -55,10 +41,3 @@ taken_all c left all t e =
       asks = sym (ap (λ xs. kept c ++ requested xs) e ∙ append-nil (kept c)) ∙ t.asks;
       tells = sym (ap (λ xs. vec_items c.readable ++ readable xs) e ∙ append-nil (vec_items c.readable)) ∙ t.tells;
     }
-
--- the row that came next, or that none did
-pub came : (next : Option CallRow) (x : CallRow) (old new : Rows) → next ≡ Some x → NextRow next old new → rows old.rest.now ≡ called x ∷ rows new.rest.now
-came next x old new e h = subst (λ (o : Option CallRow). NextRow o old new) e h
-
-pub came_none : (next : Option CallRow) (old new : Rows) → next ≡ None → NextRow next old new → rows old.rest.now ≡ []
-came_none next old new e h = subst (λ (o : Option CallRow). NextRow o old new) e h

@@ -1,5 +1,6 @@
 -- The call rows in some bytes, and the request that each says.
-use Rattle.std.specs.Prelude.{ℕ, zero, suc, cond, List, [], ◌∷◌, ◌++◌, ℤ, Some, None, codes, Option, ◌==◌}
+use Rattle.std.specs.Prelude.{ℕ, zero, suc, ◌-◌, cond, List, [], ◌∷◌, ◌++◌, length, take, drop, ℤ, Some, None, codes, Option, ◌==◌}
+use Rattle.std.specs.Str.{bytes_eq}
 use Rattle.script.specs.Bytes.{Got, got, bad, then, number_at, byte_at, bytes_at, column_at}
 use Rattle.rules.specs.declared.calls.Argument.{Argument}
 use Rattle.rules.specs.Calling.{Request, make, post, turn, collect, note, natural}
@@ -58,13 +59,9 @@ whole bad = None
 abbrev pub row_request : List ℕ → Option Request
 row_request bs = whole (request_at bs)
 
--- the first line, which goes on after `front`, and what follows it; none where no line feed (10) is left
-abbrev pub line_on : List ℕ → List ℕ → Option (List ℕ × List ℕ)
-line_on front [] = None
-line_on front (b ∷ bs) = cond (b == 10) (Some (front, bs)) (line_on (front ++ b ∷ []) bs)
-
-abbrev pub first_line : List ℕ → Option (List ℕ × List ℕ)
-first_line bs = line_on [] bs
+-- the request that a line says; none where it does not end with a line feed (10)
+abbrev pub line_request : List ℕ → Option Request
+line_request bs = cond (bytes_eq (drop (length bs - 1) bs) (10 ∷ [])) (row_request (take (length bs - 1) bs)) None
 
 -- what is left at the end without a line feed is one unreadable row, if it is anything
 abbrev pub unended : List ℕ → List (Option Request)

@@ -3,28 +3,19 @@ use Rattle.std.specs.Prelude.{◌≡◌, Bool, true, false, List, [], ◌∷◌,
 use Rattle.rules.specs.declared.calls.Request.{Request as StoredRequest}
 use Rattle.rules.specs.Calling.{Request, request_of}
 use Rattle.console.specs.declared.reader.RowError.{RowError}
-use Rattle.console.specs.declared.reader.RowError.TheVariants.{Unreadable as NoRow, Memory}
-use Rattle.console.specs.declared.rows.CallRow.{CallRow}
-use Rattle.console.specs.declared.rows.CallRow.TheVariants.{Call, Unreadable}
-use Rattle.console.specs.declared.rows.Rows.{Rows}
+use Rattle.console.specs.declared.reader.RowError.TheVariants.{Unreadable, Memory}
 use Rattle.console.specs.declared.calls.Calls.{Calls}
-use Rattle.console.specs.Requests.{rows}
 
 -- what memory holds of a row
-abbrev pub called : CallRow → Option Request
-called (Call q) = Some (request_of q)
-called Unreadable = None
+abbrev pub called : Option StoredRequest → Option Request
+called (Some q) = Some (request_of q)
+called None = None
 
 -- r is what a row says
 abbrev pub GivesWhole : Result StoredRequest RowError → Option Request → Type 0
 GivesWhole (Ok q) o = o ≡ Some (request_of q)
-GivesWhole (Err NoRow) o = o ≡ None
+GivesWhole (Err Unreadable) o = o ≡ None
 GivesWhole (Err Memory) o = Unit {0}
-
--- the next row is the first of those that were left, and the others are left after it
-abbrev pub NextRow : Option CallRow → Rows → Rows → Type 0
-NextRow None old new = rows old.rest.now ≡ []
-NextRow (Some x) old new = rows old.rest.now ≡ called x ∷ rows new.rest.now
 
 -- the requests among what some rows say, in their order
 abbrev pub requested : List (Option Request) → List Request

@@ -1,33 +1,40 @@
 //! The rows that are put out: what comes back for a call, as data and as text.
-ghost use Rattle.std.specs.Prelude.{◌≡◌, IfOk, Some, string_bytes, decimal};
-ghost use Rattle.console.specs.Outputs.{kind_number, row_of, pair, plain, single, named, value_row, note_row, columns_text, told, row_text, fault_text, names};
+ghost use Rattle.std.specs.Prelude.{◌≡◌, Some, decimal};
+ghost use Rattle.console.specs.Outputs.{kind_number, row_of, plain, single, named, value_row, note_row, columns_text, told};
 
 use rules::calls::Answer;
 use rules::tables::Note;
 use rules::values::{Name, Value};
-use script::fault::BodyFault;
-use std::alloc::{AllocError, Global};
 use std::fmt;
 
-/// What kind of thing a row carries.
+/// What kind of thing a row carries, by the number that is put out for it.
 #[derive(Clone, Copy)]
 pub enum Kind {
-    /// 0: nothing.
-    Nothing,
-    /// 1: a number.
-    Number,
-    /// 2: an object's name.
-    Object,
-    /// 3: a future's name.
-    Future,
-    /// 4: a mark.
-    Mark,
-    /// 5: a note.
-    Note,
+    /// Nothing.
+    Nothing = 0,
+    /// A number.
+    Number = 1,
+    /// An object's name.
+    Object = 2,
+    /// A future's name.
+    Future = 3,
+    /// A mark.
+    Mark = 4,
+    /// A note.
+    Note = 5,
+}
+
+impl Kind {
+    /// The number of the kind.
+    fn number(self) -> u8
+        ensures { result ≡ kind_number self }
+    {
+        self as u8
+    }
 }
 
 /// The data of what a row carries, with zeros after them.
-#[derive(Clone, Copy)]
+#[derive(Clone, Copy, Default)]
 pub struct Columns {
     pub p: i32,
     pub q: i32,
@@ -44,108 +51,44 @@ pub struct OutputRow {
     pub columns: Columns,
 }
 
-/// The number of a kind.
-fn kind_number(kind: Kind) -> u8
-    ensures { result ≡ kind_number kind }
-{
-    match kind {
-        Kind::Nothing => 0,
-        Kind::Number => 1,
-        Kind::Object => 2,
-        Kind::Future => 3,
-        Kind::Mark => 4,
-        Kind::Note => 5,
-    }
-}
-
-/// Two data, and zeros after them.
-fn two(p: i32, q: i32) -> Columns
-    ensures { result ≡ pair p q }
-{
-    Columns {
-        p,
-        q,
-        s: 0,
-        t: 0,
-        u: 0,
-    }
-}
-
-/// A returned number, and nothing with it.
-fn bare_row(returned: u8) -> OutputRow
-    ensures { result ≡ plain returned }
-{
-    OutputRow {
-        returned,
-        kind: Kind::Nothing,
-        columns: two(0, 0),
-    }
-}
-
-/// A granted call that carries one number.
-fn single_row(kind: Kind, n: i32) -> OutputRow
-    ensures { result ≡ single 0 kind n }
-{
-    OutputRow {
-        returned: 0,
-        kind,
-        columns: two(n, 0),
-    }
-}
-
-/// A granted call that carries the name of an object or of a future.
-fn name_row(kind: Kind, name: Name) -> OutputRow
-    ensures { result ≡ named 0 kind name }
-{
-    OutputRow {
-        returned: 0,
-        kind,
-        columns: two(i32::from(name.home), i32::from(name.number)),
-    }
-}
-
-/// A granted call that carries a value.
-fn carried_row(value: Value) -> OutputRow
-    ensures { result ≡ value_row 0 value }
-{
-    match value {
-        Value::Number(n) => single_row(Kind::Number, n),
-        Value::ObjectName(name) => name_row(Kind::Object, name),
-        Value::FutureName(name) => name_row(Kind::Future, name),
-        Value::Marked(mark) => single_row(Kind::Mark, i32::from(mark.number())),
-    }
-}
-
-/// A granted call that carries a note.
-fn noted_row(note: Note) -> OutputRow
-    ensures { result ≡ note_row 0 note }
-{
-    OutputRow {
-        returned: 0,
-        kind: Kind::Note,
-        columns: Columns {
-            p: i32::from(note.cause.number()),
-            q: i32::from(note.layer.number()),
-            s: i32::from(note.class),
-            t: i32::from(note.method),
-            u: i32::from(note.statement),
-        },
-    }
-}
-
 impl OutputRow {
-    /// The row of an answer: its number, and what comes with it.
-    pub fn of_answer(answer: Answer) -> OutputRow
-        ensures { result ≡ row_of answer }
+    /// A returned number, and nothing with it.
+    fn bare(returned: u8) -> OutputRow
+        ensures { result ≡ plain returned }
     {
-        match answer {
-            Answer::Refused(_) => bare_row(answer.number()),
-            Answer::Made(name) => name_row(Kind::Object, name),
-            Answer::Posted(name) => name_row(Kind::Future, name),
-            Answer::Ended => bare_row(answer.number()),
-            Answer::Held => bare_row(answer.number()),
-            Answer::Collected(x) => carried_row(x.value),
-            Answer::Noted(x) => noted_row(x),
+        OutputRow {
+            returned,
+            kind: Kind::Nothing,
+            columns: Columns::default(),
+        }
+    }
+
+    /// A granted call that carries one number.
+    fn single(kind: Kind, n: i32) -> OutputRow
+        ensures { result ≡ single 0 kind n }
+    {
+        OutputRow {
+            returned: 0,
+            kind,
+            columns: Columns {
+                p: n,
+                ..Columns::default()
+            },
+        }
+    }
+
+    /// A granted call that carries the name of an object or of a future.
+    fn named(kind: Kind, name: Name) -> OutputRow
+        ensures { result ≡ named 0 kind name }
+    {
+        OutputRow {
+            returned: 0,
+            kind,
+            columns: Columns {
+                p: i32::from(name.home),
+                q: i32::from(name.number),
+                ..Columns::default()
+            },
         }
     }
 
@@ -153,14 +96,55 @@ impl OutputRow {
     pub fn unreadable() -> OutputRow
         ensures { result ≡ plain 9 }
     {
-        bare_row(9)
+        OutputRow::bare(9)
     }
+}
 
-    /// The row's line, with the number of its call in front.
-    pub fn text(&self, heap: Global, call: usize) -> Result<String, AllocError>
-        ensures { IfOk result (λ t. string_bytes t ≡ row_text call self.now) }
-    {
-        format!(in heap; "{call} {self}\n")
+/// A granted call that carries a value.
+impl From<Value> for OutputRow {
+    ghost from_gives = { λ value row. row ≡ value_row 0 value };
+
+    fn from(value: Value) -> OutputRow {
+        match value {
+            Value::Number(n) => OutputRow::single(Kind::Number, n),
+            Value::ObjectName(name) => OutputRow::named(Kind::Object, name),
+            Value::FutureName(name) => OutputRow::named(Kind::Future, name),
+            Value::Marked(mark) => OutputRow::single(Kind::Mark, i32::from(mark.number())),
+        }
+    }
+}
+
+/// A granted call that carries a note.
+impl From<Note> for OutputRow {
+    ghost from_gives = { λ note row. row ≡ note_row 0 note };
+
+    fn from(note: Note) -> OutputRow {
+        OutputRow {
+            returned: 0,
+            kind: Kind::Note,
+            columns: Columns {
+                p: i32::from(note.cause.number()),
+                q: i32::from(note.layer.number()),
+                s: i32::from(note.class),
+                t: i32::from(note.method),
+                u: i32::from(note.statement),
+            },
+        }
+    }
+}
+
+/// The row of an answer: its number, and what comes with it.
+impl From<Answer> for OutputRow {
+    ghost from_gives = { λ answer row. row ≡ row_of answer };
+
+    fn from(answer: Answer) -> OutputRow {
+        match answer {
+            Answer::Refused(_) | Answer::Ended | Answer::Held => OutputRow::bare(answer.number()),
+            Answer::Made(name) => OutputRow::named(Kind::Object, name),
+            Answer::Posted(name) => OutputRow::named(Kind::Future, name),
+            Answer::Collected(x) => OutputRow::from(x.value),
+            Answer::Noted(note) => OutputRow::from(note),
+        }
     }
 }
 
@@ -169,8 +153,7 @@ impl fmt::Display for Kind {
     ghost output = { λ x. Some (decimal (kind_number x)) };
 
     fn fmt<W: fmt::Write>(&self, f: &mut fmt::Formatter<W>) -> fmt::Result {
-        let number = kind_number(*self);
-        write!(f, "{number}")
+        write!(f, "{}", self.number())
     }
 }
 
@@ -179,11 +162,7 @@ impl fmt::Display for Columns {
     ghost output = { λ x. Some (columns_text x) };
 
     fn fmt<W: fmt::Write>(&self, f: &mut fmt::Formatter<W>) -> fmt::Result {
-        let p = self.p;
-        let q = self.q;
-        let s = self.s;
-        let t = self.t;
-        let u = self.u;
+        let Columns { p, q, s, t, u } = self;
         write!(f, "{p} {q} {s} {t} {u}")
     }
 }
@@ -193,26 +172,6 @@ impl fmt::Display for OutputRow {
     ghost output = { λ x. Some (told x) };
 
     fn fmt<W: fmt::Write>(&self, f: &mut fmt::Formatter<W>) -> fmt::Result {
-        let returned = self.returned;
-        let kind = self.kind;
-        let columns = self.columns;
-        write!(f, "{returned} {kind} {columns}")
+        write!(f, "{} {} {}", self.returned, self.kind, self.columns)
     }
-}
-
-/// The line that is row 0 where a text does not load: 7, and the line, the cause and the layer of its first fault.
-pub fn fault_line(heap: Global, fault: &BodyFault) -> Result<String, AllocError>
-    ensures { IfOk result (λ t. string_bytes t ≡ fault_text fault.now) }
-{
-    let line = fault.line();
-    let cause = fault.cause();
-    let layer = fault.layer();
-    format!(in heap; "0 7 0 {line} {cause} {layer} 0 0\n")
-}
-
-/// The line that names the columns, which is put out first.
-pub fn names_line() -> &'static str
-    ensures { result.now ≡ names }
-{
-    "call r k p q s t u\n"
 }

@@ -1,6 +1,6 @@
 //! The two parts of the input: a script text, and the call rows after the first empty line.
-ghost use Rattle.std.specs.Prelude.{◌≡◌, length, nat_lt};
-ghost use Rattle.console.specs.Parts.{most_bytes, text_part, rows_part};
+ghost use Rattle.std.specs.Prelude.{◌≡◌, false, length, nat_lt};
+ghost use Rattle.console.specs.Parts.{most_bytes, text_on, text_part, rows_on, rows_part};
 
 /// How many bytes an input may have.
 pub const MOST_BYTES: usize = 60_000;
@@ -22,23 +22,33 @@ pub fn is_too_long(input: &[u8]) -> bool
 }
 
 /// Takes an input apart at its first line of no bytes. Without one, all of it is text.
+#[tactic(auto, using(crate::proofs::Parting::same_text, crate::proofs::Parting::same_rows))]
 pub fn split(input: &[u8]) -> Parts<'_>
     ensures text { result.text.now ≡ text_part input.now }
     ensures rows { result.rows.now ≡ rows_part input.now }
 {
-    let mut fresh = true;
-    for (i, b) in input.iter().enumerate() {
-        let feeds = *b == b'\n';
-        if fresh && feeds {
-            return Parts {
-                text: &input[0..i],
-                rows: &input[i + 1..],
-            };
-        }
-        fresh = feeds;
+    match input.strip_prefix(b"\n") {
+        Some(rows) => Parts { text: &[], rows },
+        None => split_later(input),
     }
-    Parts {
-        text: input,
-        rows: &[],
+}
+
+/// The same at the first line of no bytes that other lines stand before.
+fn split_later(input: &[u8]) -> Parts<'_>
+    ensures text { result.text.now ≡ text_on false input.now }
+    ensures rows { result.rows.now ≡ rows_on false input.now }
+{
+    let ends = input
+        .windows(2)
+        .position(|pair| matches!(pair, [b'\n', b'\n']));
+    match ends {
+        Some(i) => Parts {
+            text: &input[..=i],
+            rows: &input[i + 2..],
+        },
+        None => Parts {
+            text: input,
+            rows: &[],
+        },
     }
 }

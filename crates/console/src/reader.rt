@@ -14,7 +14,9 @@ use std::alloc::{AllocFailed, Global};
 /// Why a row gives no request: it is no call row, or memory was short.
 #[derive(Clone, Copy)]
 pub enum RowError {
+    /// It is no call row.
     Unreadable,
+    /// Memory was short.
     Memory,
 }
 
@@ -48,51 +50,48 @@ pub enum Word {
 fn unsigned(n: i32) -> Option<u32>
     ensures { result ≡ natural n }
 {
-    if n < 0 {
-        return None;
-    }
-    Some(n as u32)
+    u32::try_from(n).ok()
 }
 
 /// The word of a call.
 fn call_word(reader: &mut Reader<'_>) -> Result<Word, RowError>
     ensures { Gives itself result (word_at (left reader.old)) reader.new }
 {
-    if reader.spells(b"make") {
-        return Ok(Word::Make);
-    }
-    if reader.spells(b"post") {
-        return Ok(Word::Post);
-    }
-    if reader.spells(b"turn") {
-        return Ok(Word::Turn);
-    }
-    if reader.spells(b"collect") {
-        return Ok(Word::Collect);
-    }
-    if reader.spells(b"note") {
-        return Ok(Word::Note);
-    }
-    Err(RowError::Unreadable)
+    // A test for each word: a table would have as many lines, one for each word, and a loop over them besides.
+    let word = if reader.spells(b"make") {
+        Word::Make
+    } else if reader.spells(b"post") {
+        Word::Post
+    } else if reader.spells(b"turn") {
+        Word::Turn
+    } else if reader.spells(b"collect") {
+        Word::Collect
+    } else if reader.spells(b"note") {
+        Word::Note
+    } else {
+        return Err(RowError::Unreadable);
+    };
+    Ok(word)
 }
 
 /// A number and its label.
 fn argument(reader: &mut Reader<'_>) -> Result<Argument, ByteFault>
     ensures { Reads result (argument_at (left reader.old)) reader.old reader.new }
 {
-    let number = reader.column()?;
-    let label = reader.column()?;
-    Ok(Argument { number, label })
+    Ok(Argument {
+        number: reader.column()?,
+        label: reader.column()?,
+    })
 }
 
 /// So many arguments.
+#[tactic(auto, using(crate::proofs::Counting::one_more))]
 fn arguments(heap: Global, reader: &mut Reader<'_>, count: u32) -> Result<Vec<Argument>, RowError>
     ensures { Gives vec_items result (arguments_on [] count (left reader.old)) reader.new }
 {
     let mut arguments = Vec::new(heap);
     for _ in 0..count {
-        let argument = argument(reader)?;
-        arguments.push(argument)?;
+        arguments.push(argument(reader)?)?;
     }
     Ok(arguments)
 }
@@ -100,14 +99,12 @@ fn arguments(heap: Global, reader: &mut Reader<'_>, count: u32) -> Result<Vec<Ar
 /// As many arguments as `count` says. A negative count is unreadable.
 fn counted_arguments(
     heap: Global,
-    reader: &mut Reader<'_>,
     count: i32,
+    reader: &mut Reader<'_>,
 ) -> Result<Vec<Argument>, RowError>
     ensures { Gives vec_items result (arguments_for (natural count) (left reader.old)) reader.new }
 {
-    let Some(count) = unsigned(count) else {
-        return Err(RowError::Unreadable);
-    };
+    let count = unsigned(count).ok_or(RowError::Unreadable)?;
     arguments(heap, reader, count)
 }
 
@@ -120,53 +117,35 @@ fn values(
 ) -> Result<Request, RowError>
     ensures { Gives request_of result (values_at word bearer (left reader.old)) reader.new }
 {
-    match word {
-        Word::Make => {
-            let class = reader.column()?;
-            let level = reader.column()?;
-            Ok(Request::Make {
-                bearer,
-                class,
-                level,
-            })
-        }
-        Word::Post => {
-            let home = reader.column()?;
-            let number = reader.column()?;
-            let method = reader.column()?;
-            let count = reader.column()?;
-            let arguments = counted_arguments(heap, reader, count)?;
-            Ok(Request::Post {
-                bearer,
-                home,
-                number,
-                method,
-                arguments,
-            })
-        }
-        Word::Turn => {
-            let home = reader.column()?;
-            let number = reader.column()?;
-            Ok(Request::Turn {
-                bearer,
-                home,
-                number,
-            })
-        }
-        Word::Collect => {
-            let home = reader.column()?;
-            let number = reader.column()?;
-            Ok(Request::Collect {
-                bearer,
-                home,
-                number,
-            })
-        }
-        Word::Note => {
-            let class = reader.column()?;
-            Ok(Request::Take { bearer, class })
-        }
-    }
+    let request = match word {
+        Word::Make => Request::Make {
+            bearer,
+            class: reader.column()?,
+            level: reader.column()?,
+        },
+        Word::Post => Request::Post {
+            bearer,
+            home: reader.column()?,
+            number: reader.column()?,
+            method: reader.column()?,
+            arguments: counted_arguments(heap, reader.column()?, reader)?,
+        },
+        Word::Turn => Request::Turn {
+            bearer,
+            home: reader.column()?,
+            number: reader.column()?,
+        },
+        Word::Collect => Request::Collect {
+            bearer,
+            home: reader.column()?,
+            number: reader.column()?,
+        },
+        Word::Note => Request::Take {
+            bearer,
+            class: reader.column()?,
+        },
+    };
+    Ok(request)
 }
 
 /// The request that stands next: the party's level, the call's word and its values.

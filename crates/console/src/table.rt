@@ -1,21 +1,33 @@
 //! The whole table that is put out, as one text: the line of names, and a row for each call or a row 0.
-ghost use Rattle.std.specs.Prelude.{◌≡◌, IfOk, string_bytes};
+ghost use Rattle.std.specs.Prelude.{◌≡◌, ◌++◌, IfOk, OnOk, string_bytes};
+ghost use Rattle.console.specs.Outputs.{row_text};
 ghost use Rattle.console.specs.Tables.{row_for, left_by, answers_text, too_long_text, fault_table_text};
 
-use crate::output::{OutputRow, fault_line, names_line};
+use crate::output::OutputRow;
 use rules::calls::Answer;
 use script::fault::BodyFault;
 use std::alloc::{AllocError, Global};
+use std::fmt::Write;
+
+/// The line that names the columns, which is put out first.
+const NAMES: &str = "call r k p q s t u\n";
 
 /// The row of the first call row, which could be read or not, and the answers that are left for the others.
 fn first_row(readable: bool, answers: &[Answer]) -> (OutputRow, &[Answer])
     ensures row { result.0 ≡ row_for readable answers.now }
     ensures rest { result.1.now ≡ left_by readable answers.now }
 {
-    if !readable || answers.is_empty() {
-        return (OutputRow::unreadable(), answers);
+    match answers.split_first() {
+        Some((answer, others)) if readable => (OutputRow::from(*answer), others),
+        _ => (OutputRow::unreadable(), answers),
     }
-    (OutputRow::of_answer(answers[0]), &answers[1..])
+}
+
+/// Adds the line of a row, with the number of its call in front.
+fn put_row(table: &mut String, call: usize, row: OutputRow) -> Result<(), AllocError>
+    ensures { OnOk result (string_bytes table.new ≡ string_bytes table.old ++ row_text call row) }
+{
+    writeln!(table, "{call} {row}")
 }
 
 /// The table of some call rows: each that could be read has the next of the answers, and each other one has 9.
@@ -26,12 +38,11 @@ pub fn answers_table(
 ) -> Result<String, AllocError>
     ensures { IfOk result (λ t. string_bytes t ≡ answers_text readable.now answers.now) }
 {
-    let mut table = String::from_str(heap, names_line())?;
+    let mut table = String::from_str(heap, NAMES)?;
     let mut rest = answers;
     for (i, known) in readable.iter().enumerate() {
         let (row, others) = first_row(*known, rest);
-        let line = row.text(heap, i + 1)?;
-        table.push_str(line.as_str())?;
+        put_row(&mut table, i + 1, row)?;
         rest = others;
     }
     Ok(table)
@@ -41,9 +52,8 @@ pub fn answers_table(
 pub fn too_long_table(heap: Global) -> Result<String, AllocError>
     ensures { IfOk result (λ t. string_bytes t ≡ too_long_text) }
 {
-    let mut table = String::from_str(heap, names_line())?;
-    let line = OutputRow::unreadable().text(heap, 0)?;
-    table.push_str(line.as_str())?;
+    let mut table = String::from_str(heap, NAMES)?;
+    put_row(&mut table, 0, OutputRow::unreadable())?;
     Ok(table)
 }
 
@@ -51,8 +61,6 @@ pub fn too_long_table(heap: Global) -> Result<String, AllocError>
 pub fn fault_table(heap: Global, fault: &BodyFault) -> Result<String, AllocError>
     ensures { IfOk result (λ t. string_bytes t ≡ fault_table_text fault.now) }
 {
-    let mut table = String::from_str(heap, names_line())?;
-    let line = fault_line(heap, fault)?;
-    table.push_str(line.as_str())?;
-    Ok(table)
+    let (line, cause, layer) = (fault.line(), fault.cause(), fault.layer());
+    format!(in heap; "{NAMES}0 7 0 {line} {cause} {layer} 0 0\n")
 }
