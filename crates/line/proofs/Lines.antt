@@ -40,15 +40,15 @@ module _ {X : Type 0} where
 
 -- one is written behind the last
 module _ {X : Type 0} where
-  pub add-elements : (slots : List (Option X)) (e : X) → compact slots ≡ true → length (elements slots) < length slots → elements (set slots (length (elements slots)) (Some e)) ≡ elements slots ++ e ∷ []
-  add-elements [] e k h = absurd (omega arith)
-  add-elements (Some x ∷ slots) e k h = ap (λ ys. x ∷ ys) (add-elements slots e k (omega arith))
-  add-elements (None ∷ slots) e k h = ap (λ ys. e ∷ ys) (free-elements slots k)
+  pub add_elements : (slots : List (Option X)) (e : X) → compact slots ≡ true → length (elements slots) < length slots → elements (set slots (length (elements slots)) (Some e)) ≡ elements slots ++ e ∷ []
+  add_elements [] e k h = absurd (omega arith)
+  add_elements (Some x ∷ slots) e k h = ap (λ ys. x ∷ ys) (add_elements slots e k (omega arith))
+  add_elements (None ∷ slots) e k h = ap (λ ys. e ∷ ys) (free-elements slots k)
 
-  pub add-compact : (slots : List (Option X)) (e : X) → compact slots ≡ true → compact (set slots (length (elements slots)) (Some e)) ≡ true
-  add-compact [] e k = refl
-  add-compact (Some x ∷ slots) e k = add-compact slots e k
-  add-compact (None ∷ slots) e k = free-compact slots k
+  pub add_compact : (slots : List (Option X)) (e : X) → compact slots ≡ true → compact (set slots (length (elements slots)) (Some e)) ≡ true
+  add_compact [] e k = refl
+  add_compact (Some x ∷ slots) e k = add_compact slots e k
+  add_compact (None ∷ slots) e k = free-compact slots k
 
 -- one is written over another
 module _ {X : Type 0} where

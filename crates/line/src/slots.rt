@@ -36,7 +36,7 @@ pub fn look<E: Element + Copy>(slots: &[Option<E>], key: E::Key) -> Option<(usiz
     ensures within { IfSome result (λ f. f.0 < length (elements slots.now)) }
     ensures holds { IfSome result (λ f. (d : E) → slice_index_or (elements slots.now) f.0 d ≡ f.1) }
 {
-    // A loop, which ends at a free slot by `?`: in a chain each closure over a generic key would need a clause of its own.
+    // A loop, which ends at a free slot by `?`: the proof of a chain (`map_while`, `enumerate`, `find`) did not close.
     for (i, slot) in slots.iter().enumerate() {
         let e = (*slot)?;
         if e.key() == key {
@@ -48,6 +48,7 @@ pub fn look<E: Element + Copy>(slots: &[Option<E>], key: E::Key) -> Option<(usiz
 
 /// Puts the element last, and answers its place. It is refused exactly when all slots are taken: then it is given
 /// back, and the slots are as they stood.
+#[tactic(auto, using(crate::proofs::Lines::add_elements, crate::proofs::Lines::add_compact))]
 pub fn add<E: Copy>(slots: &mut [Option<E>], e: E) -> Result<usize, E>
     requires { compact slots.old ≡ true }
     ensures accepts { is_ok result ≡ nat_lt (length (elements slots.old)) (length slots.old) }
@@ -55,6 +56,7 @@ pub fn add<E: Copy>(slots: &mut [Option<E>], e: E) -> Result<usize, E>
     ensures compact { compact slots.new ≡ true }
 {
     let next = count(slots);
+    // By a test, and not by `get_mut`: the library says nothing of what a slice ends as after that, so the proof did not close.
     if next < slots.len() {
         slots[next] = Some(e);
         Ok(next)

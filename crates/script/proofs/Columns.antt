@@ -1,6 +1,6 @@
 -- A column is read from what is written of a value, and from nothing else.
 use Rattle.std.proofs.Common.{◌≡◌, ℕ, ◌+◌, ◌-◌, ◌<◌, Bool, true, false, ◌&&◌, eqb, ltb, ℤ, pos, negsuc, Some, None, Option, sym, refl, ap, ◌∙◌, subst, arith, w32, SFits}
-use Rattle.std.proofs.lemmas.Bool.{cond_both, cond-true, cond-false, and_parts, eqb-true, eq-eqb, ltb-true, ltb-false, lt-ltb, le-ltb}
+use Rattle.std.proofs.lemmas.Bool.{cond_both, cond-true, cond-false, and_parts, eqb-true, ltb-true, ltb-false, lt-ltb, le-ltb}
 use Rattle.script.specs.declared.class.Variable.{Variable}
 use Rattle.script.specs.declared.class.Variable.TheVariants.{Local, Field as OfObject}
 use Rattle.script.specs.Rows.{is, and, when, below, variable, optional}
@@ -22,9 +22,6 @@ by_when false o x P e f = none (cc)
 pub is_only : (z : ℤ) (k : ℕ) → is z k ≡ true → z ≡ pos k
 is_only (pos n) k e = ap pos (eqb-true n k e)
 is_only (negsuc n) k e = none (cc)
-
-pub is_back : (k : ℕ) → is (pos k) k ≡ true
-is_back k = eq-eqb k k refl
 
 pub below_only : (z : ℤ) (limit n : ℕ) → below z limit ≡ Some n → (z ≡ pos n) × (ltb n limit ≡ true)
 below_only (pos m) limit n =

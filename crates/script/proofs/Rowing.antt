@@ -9,7 +9,7 @@ use Rattle.script.specs.Bytes.{Got, got, bad, row_at}
 use Rattle.script.specs.Rows.{entry}
 use Rattle.script.specs.Layout.{row_text}
 use Rattle.script.specs.Classes.{Program}
-use Rattle.script.specs.Reading.{Draft, bind, place, take_in, finish, with_rest, entry_got, entry_from, taken, row_from, rows_from}
+use Rattle.script.specs.Reading.{Draft, bind, place, take_in, with_rest, entry_got, entry_from, taken, row_from, rows_from}
 use Rattle.script.proofs.Lines.{none, Fits, row_back, row_shorter}
 
 -- what comes of a value that was bound
@@ -66,11 +66,6 @@ fuel_enough (suc f) (suc g) levels line d (b ∷ bs) p q =
 -- the rows in some bytes, with as much fuel as there are bytes
 abbrev pub rows_in : ℕ → ℕ → Draft → List ℕ → Result Program BodyFault
 rows_in levels line d bs = rows_from (length bs) levels line d bs
-
--- no row is left
-pub rows_end : (levels line : ℕ) (d : Draft) (bs : List ℕ) → length bs ≡ 0 → rows_in levels line d bs ≡ finish d
-rows_end levels line d [] h = refl
-rows_end levels line d (b ∷ bs) h = absurd (omega arith)
 
 rows_more : (levels line : ℕ) (d : Draft) (bs : List ℕ) (e : Draft) (rest : List ℕ) → row_from levels line d bs ≡ Ok (e, rest) → length rest < length bs
     → rows_in levels line d bs ≡ rows_in levels (line + 1) e rest

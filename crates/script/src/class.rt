@@ -9,6 +9,7 @@ pub enum Variable {
 }
 
 /// The variables that a call passes on, in order; at most four.
+// No list with a length: these five need no fact of their own to say that no gap stands between arguments.
 #[derive(Clone, Copy, Debug, PartialEq, Eq)]
 pub enum Arguments {
     Empty,

@@ -65,6 +65,7 @@ impl Draft {
             return Ok(());
         };
         heading.check(&self.statements)?;
+        // `replace`, here and below, and no `take`, which could fail: a list is made with a heap.
         let statements = std::mem::replace(&mut self.statements, Vec::new(self.heap));
         self.methods.push(Method {
             parameters: heading.parameters,

@@ -19,8 +19,9 @@ impl Heading {
     pub fn check(&self, statements: &[Statement]) -> Result<(), BodyFault>
         ensures { result ≡ (if stands statements.now then Ok tt else Err (Body self.now.line)) }
     {
-        is_body(statements)
-            .then_some(())
-            .ok_or(BodyFault::Body { line: self.line })
+        if !is_body(statements) {
+            return Err(BodyFault::Body { line: self.line });
+        }
+        Ok(())
     }
 }

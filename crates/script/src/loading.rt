@@ -1,5 +1,5 @@
 //! The whole way from a text's bytes to a program or to its first fault.
-ghost use Rattle.std.specs.Prelude.{◌≡◌, ◌+◌, Ok, Err, MatchResult};
+ghost use Rattle.std.specs.Prelude.{◌≡◌, Ok, Err, MatchResult};
 ghost use Rattle.script.specs.declared.fault.ByteFault.TheVariants.{Names};
 ghost use Rattle.script.specs.declared.fault.RowFault.TheVariants.{Bytes};
 ghost use Rattle.script.specs.Bytes.{got, bad, names, bytes_at};
@@ -54,6 +54,7 @@ fn read(heap: Global, levels: u8, text: &[u8]) -> Result<Vec<Class>, LoadError>
 {
     let mut reader = open(text)?;
     let mut draft = Draft::new(heap);
+    // Row by row: each moves the reader, grows the draft and may end it all by `?`, which no closure could tell of.
     while !reader.is_at_end() {
         read_row(&mut reader, levels, &mut draft)?;
     }

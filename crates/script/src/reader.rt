@@ -86,6 +86,7 @@ pub struct Row {
 /// The bytes of a text that are left to read, and the line that they begin on.
 ///
 /// It keeps as a fact that the lines can be counted to the end, even where every byte that is left ends one.
+/// What a method leaves is a tail of what was left before the call, on an error too.
 #[derive(Drop)]
 pub struct Reader<'a> {
     rest: &'a [u8],
@@ -133,6 +134,7 @@ impl Reader<'_> {
     }
 
     /// The value of the next byte if that is a digit, which is then passed.
+    #[tactic(auto, using(crate::proofs::Fronts::tail_same, crate::proofs::Fronts::tail_next))]
     fn digit(&mut self) -> Option<u32>
         ensures reads { MatchOption result ((left self.new ≡ left self.old) × NoDigit (left self.old)) (λ d. (d < 10) × (left self.old ≡ (48 + d) ∷ left self.new)) }
         ensures kept { Kept self.old self.new }
@@ -145,6 +147,7 @@ impl Reader<'_> {
     }
 
     /// The digits from here, as a number of at most `most`.
+    #[tactic(auto, using(crate::proofs::Fronts::tail_more))]
     fn magnitude(&mut self, most: u32) -> Result<u32, ByteFault>
         requires { most ≤ 2 ^ 31 }
         ensures bound { IfOk result (λ n. n ≤ most) }
@@ -152,6 +155,7 @@ impl Reader<'_> {
         ensures kept { Kept self.old self.new }
     {
         let mut n = self.digit().ok_or(self.misformed())?;
+        // Digit by digit: each moves the reader, and may end the number by an error.
         while let Some(d) = self.digit() {
             // A zero before other digits, or too large.
             if n == 0 || n > most / 10 {
@@ -166,6 +170,7 @@ impl Reader<'_> {
     }
 
     /// A signed number of 32 bits, with no needless sign or zero.
+    #[tactic(auto, using(crate::proofs::Fronts::tail_more))]
     pub fn number(&mut self) -> Result<i32, ByteFault>
         ensures reads { Reads result (number_at (left self.old)) self.old self.new }
         ensures kept { Kept self.old self.new }
@@ -183,6 +188,7 @@ impl Reader<'_> {
     }
 
     /// A row's kind, by its letter.
+    #[tactic(auto, using(crate::proofs::Fronts::tail_same, crate::proofs::Fronts::tail_next))]
     fn kind(&mut self) -> Result<Kind, ByteFault>
         ensures reads { Reads result (kind_at (left self.old)) self.old self.new }
         ensures kept { Kept self.old self.new }
@@ -199,7 +205,10 @@ impl Reader<'_> {
         ensures reads { Reads result (byte_at b (left self.old)) self.old self.new }
         ensures kept { Kept self.old self.new }
     {
-        self.spells(&[b]).then_some(()).ok_or(self.misformed())
+        if !self.spells(&[b]) {
+            return Err(self.misformed());
+        }
+        Ok(())
     }
 
     /// One space.
@@ -211,6 +220,7 @@ impl Reader<'_> {
     }
 
     /// One space and a number.
+    #[tactic(auto, using(crate::proofs::Fronts::tail_more))]
     pub fn column(&mut self) -> Result<i32, ByteFault>
         ensures reads { Reads result (column_at (left self.old)) self.old self.new }
         ensures kept { Kept self.old self.new }
@@ -220,6 +230,7 @@ impl Reader<'_> {
     }
 
     /// Goes past `letters` if they are what stands next, and else stays.
+    #[tactic(auto, using(crate::proofs::Fronts::tail_same, crate::proofs::Fronts::tail_drop))]
     pub fn spells(&mut self, letters: &[u8]) -> bool
         ensures reads { MatchBool result (bytes_at letters.now (left self.old) ≡ got tt (left self.new)) ((bytes_at letters.now (left self.old) ≡ bad) × (left self.new ≡ left self.old)) }
         ensures kept { Kept self.old self.new }
@@ -254,6 +265,7 @@ impl Reader<'_> {
     }
 
     /// The ten columns of a row and the end of its line.
+    #[tactic(auto, using(crate::proofs::Fronts::tail_more))]
     pub(crate) fn row(&mut self) -> Result<Row, ByteFault>
         ensures reads { Reads result (row_at (left self.old)) self.old self.new }
         ensures ended { Ended result self.old self.new }

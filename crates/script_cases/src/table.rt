@@ -81,6 +81,7 @@ fn cut_text(lines: &[u8]) -> anyhow::Result<Cut<'_>>
     ensures shorter { IfOk result (λ c. length c.rest.now ≤ length lines.now) }
 {
     let mut rest = lines;
+    // Over a slice that shrinks: how far it came is what the text's length is counted by.
     while !rest.is_empty() {
         let line = cut_line(rest);
         if let Some(ending) = read_ending(line.front) {
@@ -99,6 +100,7 @@ fn cut_text(lines: &[u8]) -> anyhow::Result<Cut<'_>>
 pub fn cases(heap: Global, table: &[u8]) -> anyhow::Result<Vec<Case<'_>>> {
     let mut cases = Vec::new(heap);
     let mut rest = table;
+    // Over a slice that shrinks: a case has as many lines as its text, which is known only once it is cut off.
     while !rest.is_empty() {
         let head = cut_line(rest);
         let name = head

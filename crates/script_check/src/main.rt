@@ -20,6 +20,7 @@ const LIMIT: usize = 60_000;
 fn read_text(rt: &HostRuntime) -> anyhow::Result<Vec<u8>> {
     let mut text = Vec::new(rt.alloc());
     rt.stdin()
+        // `as`: a `usize` has no `From` into a `u64`.
         .take(LIMIT as u64 + 1)
         .read_to_end(&mut text)
         .map_err(|_| anyhow!("standard input cannot be read"))?;
@@ -30,7 +31,7 @@ fn read_text(rt: &HostRuntime) -> anyhow::Result<Vec<u8>> {
 fn printable(heap: Global, line: &[u8]) -> Result<String, AllocError> {
     line.iter()
         .map(|b| match b {
-            b' '..=b'~' => *b as char,
+            b' '..=b'~' => char::from(*b),
             _ => '.',
         })
         .collect(heap)
@@ -63,6 +64,7 @@ fn run(rt: &HostRuntime) -> anyhow::Result<()> {
         text.len() <= LIMIT,
         "the text is longer than 60000 bytes, the most that is read"
     );
+    // By a match: a program and a fault are both told, and only then does the fault go up.
     match load(rt.alloc(), &Ladder {}, &text) {
         Ok(program) => table::print_program(rt, &program),
         Err(LoadError::Fault(fault)) => {

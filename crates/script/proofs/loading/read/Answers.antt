@@ -12,4 +12,4 @@ pub loop-reader-preserved : goal.loop-reader-preserved
 loop-reader-preserved c =
     let r = c.in_ok-read_row.ensures in
     rows_step c.args.levels c.loop-reader.reader.line _ (draft_of c.loop-reader.draft) (left c.loop-reader.reader) (draft_of c.read_row.new.draft)
-    (left c.read_row.new.reader) _ c.loop-reader.invariant r.reads r.ended
+    (left c.read_row.new.reader) _ c.loop-reader.invariant r.reads r.ended.line
