@@ -66,8 +66,8 @@ pub fn pass(body: &[Statement], from: usize, at: usize, context: Level) -> Next
 {
     if let Statement::Branch { first, second, .. } = body[at] {
         let start = at + 1;
-        let middle = start + first as usize;
-        let end = middle + second as usize;
+        let middle = start + usize::from(first);
+        let end = middle + usize::from(second);
         if from < middle {
             return Next::Enter {
                 from: start,

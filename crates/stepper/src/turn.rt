@@ -35,7 +35,7 @@ fn rows_of(statement: Statement) -> usize
     ensures { result ≡ branch_rows statement }
 {
     match statement {
-        Statement::Branch { first, second, .. } => first as usize + second as usize,
+        Statement::Branch { first, second, .. } => usize::from(first) + usize::from(second),
         _ => 0,
     }
 }
@@ -67,6 +67,7 @@ pub fn run<O: Order, M: Machine>(
         end: body.len(),
         context: level,
     };
+    // A loop, by places: a statement leads on, into a range or nowhere, and places are what a machine and the rules count by.
     loop {
         if range.at < range.end {
             let after = range.at + 1 + rows_of(body[range.at]);

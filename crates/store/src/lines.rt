@@ -10,7 +10,7 @@ use line::{Element, add_at, count_at, entry_at, look_at, replace_at, take_at};
 use order::{Level, Order};
 use rules::values::Name;
 
-// `level < 8` is asked, and `Level` is no type that says it: an order's law says it of its levels, and an order may be asked of any number.
+// `level < 8` is asked, and no struct says it: who calls has a level of an order, whose law gives the fact; a struct would be made anew at each call.
 impl<E: Kept, const ROOM: usize, const SLOTS: usize> Table<E, ROOM, SLOTS> {
     /// A table with nothing in it.
     pub(crate) fn new() -> Self
@@ -47,7 +47,7 @@ impl<E: Kept, const ROOM: usize, const SLOTS: usize> Table<E, ROOM, SLOTS> {
         ensures { option_map E.told result ≡ (if (O.Order.levels order.now).flow name.home level then nth (lines_of E.told self.now name.home) name.number else None) }
     {
         let home = order.flows(name.home, level).then_some(name.home)?;
-        self.get(home as usize, name.number as usize)
+        self.get(usize::from(home), usize::from(name.number))
     }
 
     /// Adds an element to a level's line, and answers its place. A full line stays as it is, and gives the element back.

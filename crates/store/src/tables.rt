@@ -38,7 +38,10 @@ impl Tables {
         ensures futures { futures_of self.new ≡ update (futures_of self.old) level (slice_set (futures_of self.old level) number (Holding value)) }
         ensures same { SameButFutures self.old self.new }
     {
-        self.futures
-            .put(level as usize, number as usize, Future::Holding(value));
+        self.futures.put(
+            usize::from(level),
+            usize::from(number),
+            Future::Holding(value),
+        );
     }
 }
