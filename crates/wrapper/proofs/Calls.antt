@@ -19,10 +19,10 @@ pub place-free : (σ : State) (s : ℕ) (answered : Bool) → room σ s answered
 place-free σ s answered h = both_right _ _ h
 
 -- the line with the new call
-pub line_more : (before now : ℕ → List Call) (s : ℕ) (c d : Call) → now ≡ before → ltb (length (before s)) 16 ≡ true → c ≡ d
-    → update now s (added 16 (now s) c) ≡ update before s (snoc (before s) d)
-line_more before now s c d e room q =
-    ap (λ calls. update calls s (added 16 (calls s) c)) e ∙ ap (update before s) (cond-true (ltb (length (before s)) 16) _ _ room ∙ ap (snoc (before s)) q)
+pub line_more : (before now : ℕ → List Call) (s at : ℕ) (c d : Call) → at ≡ s → now ≡ before → ltb (length (before s)) 16 ≡ true → c ≡ d
+    → update now at (added 16 (now at) c) ≡ update before s (snoc (before s) d)
+line_more before now s at c d p e room q =
+    (λ i. update (e i) (p i) (added 16 (e i (p i)) c)) ∙ ap (update before s) (cond-true (ltb (length (before s)) 16) _ _ room ∙ ap (snoc (before s)) q)
 
 -- the new call is the one of the rules
 pub call_new : (σ : State) (s : ℕ) (n : Name) (method : ℕ) (arguments locals : List Labelled) (answered : Bool) (owed : Option ℕ)

@@ -1,4 +1,3 @@
 mod Calls
 pub mod Every
 mod Masks
-pub mod Objects

@@ -30,6 +30,7 @@ pub struct Asked {
 }
 
 /// The object of a name, if it was made and its home flows to a level.
+// One call of the table's, as for futures: the clause is the rules' own word for it.
 pub fn find_object<O: Order>(order: &O, tables: &Tables, level: Level, name: Name) -> Option<Object>
     ensures { option_map object_of result ≡ object_for (O.Order.levels order.now) [] (state_of tables.now) level name }
 {
@@ -53,20 +54,21 @@ fn flows_in<O: Order>(
 fn accepting(classes: &[Class], class: u8, method: Option<u8>, count: usize) -> Option<&Method>
     ensures { MatchOption result (taking count (method_at (classes_of classes.now) class method) ≡ None) (λ m. taking count (method_at (classes_of classes.now) class method) ≡ Some (method_of m.now)) }
 {
-    find_method(classes, class, method?).filter(|found| found.parameters as usize == count)
+    find_method(classes, class, method?).filter(|found| usize::from(found.parameters) == count)
 }
 
 /// Whether a level has a place in line and, where the call is to be answered, a future.
+// `level < 8` is no fact of a struct, here and in `making` and `sending`: three of the five functions that ask it are lent a level alone.
 fn has_room(tables: &Tables, level: Level, answered: bool) -> bool
     requires { level < 8 }
     ensures { result ≡ room (state_of tables.now) level answered }
 {
-    (!answered || tables.futures.count(level as usize) < 32)
-        && tables.calls.count(level as usize) < 16
+    (!answered || tables.futures.count(usize::from(level)) < 32)
+        && tables.calls.count(usize::from(level)) < 16
 }
 
 /// The wrapper's verdict on a call: the object that is to serve it, or why not.
-// The order, the classes and the tables come apart, here and in `making`: no struct holds the order and the tables, by a rule of the project.
+// Order, classes and tables come apart, here and in `making`: the order is lent to each call, and tables are altered while classes are read.
 pub fn admit<O: Order>(
     order: &O,
     classes: &[Class],

@@ -10,10 +10,11 @@ use script::class::{Class, Method, Statement, Variable};
 fn find_class(classes: &[Class], class: u8) -> Option<&Class>
     ensures { MatchOption result (class_at (classes_of classes.now) class ≡ record { fields = []; methods = [] }) (λ c. class_at (classes_of classes.now) class ≡ class_of c.now) }
 {
-    classes.get(class as usize)
+    classes.get(usize::from(class))
 }
 
 /// The declared labels of a class's fields; none where the program lacks the class.
+// `methods_of` has this shape: one function for both would take a closure as long as either body.
 pub fn fields_of(classes: &[Class], class: u8) -> &[Level]
     ensures { result.now ≡ (class_at (classes_of classes.now) class).fields }
 {
@@ -31,7 +32,7 @@ fn methods_of(classes: &[Class], class: u8) -> &[Method]
 pub fn find_method(classes: &[Class], class: u8, method: u8) -> Option<&Method>
     ensures { MatchOption result (method_at (classes_of classes.now) class (Some method) ≡ None) (λ m. method_at (classes_of classes.now) class (Some method) ≡ Some (method_of m.now)) }
 {
-    methods_of(classes, class).get(method as usize)
+    methods_of(classes, class).get(usize::from(method))
 }
 
 /// The variable that a statement assigns, if any.

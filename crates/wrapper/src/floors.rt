@@ -36,7 +36,7 @@ impl<'a> Floors<'a> {
     pub fn floor<O: Order>(&self, order: &O, field: u8) -> Level
         ensures { result ≡ floor_in (O.Order.levels order.now) self.now.declared.now self.now.home field }
     {
-        let declared = self.declared.get(field as usize).copied().unwrap_or(0);
+        let declared = self.declared.get(usize::from(field)).copied().unwrap_or(0);
         order.join(declared, self.home)
     }
 
@@ -51,6 +51,7 @@ impl<'a> Floors<'a> {
     pub(crate) fn first_fields<O: Order>(&self, order: &O) -> [Labelled; 8]
         ensures { (k : ℕ) → slice_index_or result k blank ≡ (if nat_lt k 8 then nought (floor_in (O.Order.levels order.now) self.now.declared.now self.now.home k) else blank) }
     {
+        // `as`: there are eight places, and a `try_from` would add a failure that never comes.
         array::from_fn(|k| zero(self.floor(order, k as u8)))
     }
 

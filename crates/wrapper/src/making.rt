@@ -1,8 +1,8 @@
 //! Making objects.
-ghost use Rattle.std.specs.Prelude.{◌≡◌, ◌<◌, IfOk, Some, None, MatchResult};
+ghost use Rattle.std.specs.Prelude.{◌≡◌, ◌<◌};
 ghost use Rattle.script.specs.Classes.{classes_of};
 ghost use Rattle.rules.specs.Values.{nought};
-ghost use Rattle.rules.specs.Wrapper.{makeable, unmakeable, next_object};
+ghost use Rattle.rules.specs.Wrapper.{makeable};
 ghost use Rattle.store.specs.States.{state_of};
 ghost use Rattle.wrapper.specs.Floors.{floor_in};
 ghost use Rattle.wrapper.specs.Outcomes.{Makes};
@@ -26,6 +26,7 @@ pub fn zero(label: Level) -> Labelled
 }
 
 /// The floor of a field in a class that declares those labels: its declared label joined with the object's home.
+// Beside `Floors::floor`: who calls has the declared labels and the home apart.
 pub fn floor<O: Order>(order: &O, fields: &[Level], home: Level, field: u8) -> Level
     ensures { result ≡ floor_in (O.Order.levels order.now) fields.now home field }
 {
@@ -43,32 +44,6 @@ fn is_makeable<O: Order>(order: &O, classes: &[Class], home: Level, class: u8, l
     order.flows(home, level) && Floors::of(classes, class, home).flow_to(order, level)
 }
 
-/// The number that a new object gets at its home; or why it may not be made.
-fn next_number<O: Order>(
-    order: &O,
-    classes: &[Class],
-    tables: &Tables,
-    home: Level,
-    class: u8,
-    level: Level,
-) -> Result<u8, Refusal>
-    requires { home < 8 }
-    ensures says { MatchResult result (λ n. (unmakeable (O.Order.levels order.now) (classes_of classes.now) (state_of tables.now) home class level ≡ None) × (n ≡ next_object (state_of tables.now) home)) (λ why. unmakeable (O.Order.levels order.now) (classes_of classes.now) (state_of tables.now) home class level ≡ Some why) }
-    ensures space { IfOk result (λ n. n < 8) }
-{
-    if class as usize >= classes.len() {
-        return Err(Refusal::Unknown);
-    }
-    if !is_makeable(order, classes, home, class, level) {
-        return Err(Refusal::NoFlow);
-    }
-    let number = tables.objects.count(home as usize);
-    if number >= 8 {
-        return Err(Refusal::Full);
-    }
-    Ok(number as u8)
-}
-
 /// Makes an object of a class at a level, with a home; or tells why not, and changes nothing.
 pub fn make_object<O: Order>(
     order: &O,
@@ -81,15 +56,25 @@ pub fn make_object<O: Order>(
     requires { home < 8 }
     ensures { Makes (O.Order.levels order.now) (classes_of classes.now) (state_of tables.old) home class level result (state_of tables.new) }
 {
-    let number = next_number(order, classes, tables, home, class, level)?;
+    if usize::from(class) >= classes.len() {
+        return Err(Refusal::Unknown);
+    }
+    if !is_makeable(order, classes, home, class, level) {
+        return Err(Refusal::NoFlow);
+    }
     let fields = Floors::of(classes, class, home).first_fields(order);
-    let _ = tables.objects.add(
-        home as usize,
-        Object {
-            class,
-            level,
-            fields,
-        },
-    );
-    Ok(Name { home, number })
+    let object = Object {
+        class,
+        level,
+        fields,
+    };
+    let number = tables
+        .objects
+        .add(usize::from(home), object)
+        .map_err(|_| Refusal::Full)?;
+    // `as`: the place is below 8, and a `try_from` would add a failure that never comes.
+    Ok(Name {
+        home,
+        number: number as u8,
+    })
 }

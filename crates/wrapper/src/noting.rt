@@ -48,6 +48,7 @@ pub fn settle<O: Order>(
         Made::Plain(value) => value,
         Made::Fresh { mark, layer, label } => {
             let line = order.join(label, context);
+            // Field by field: a note is the rules' own type, and a place is the wrapper's.
             let note = Note {
                 cause: mark,
                 layer,
@@ -55,7 +56,7 @@ pub fn settle<O: Order>(
                 method: place.method,
                 statement: place.statement,
             };
-            let _ = tables.notes.add(line as usize, note);
+            let _ = tables.notes.add(usize::from(line), note);
             Labelled {
                 value: Value::Marked(mark),
                 label,

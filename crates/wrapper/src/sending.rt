@@ -2,7 +2,6 @@
 ghost use Rattle.std.specs.Prelude.{◌≡◌, ℕ, ◌<◌, ◌≤◌, true, [], map, length, slice_index_or};
 ghost use Rattle.rules.specs.Values.{blank, given};
 ghost use Rattle.rules.specs.Tables.{object_of, all_filed};
-ghost use Rattle.rules.specs.Lists.{update, snoc};
 ghost use Rattle.rules.specs.Wrapper.{shown, first_locals, room, ticket, sent};
 ghost use Rattle.store.specs.States.{state_of, notes_of, futures_of, SameButNotes, SameButFutures};
 ghost use Rattle.wrapper.specs.Marks.{made_of, place_of};
@@ -17,6 +16,7 @@ use store::tables::Tables;
 
 /// A call that was admitted, on its way: the level at which it goes, the context that it is sent in, who sends it by which layer, whom it is
 /// for, which method, and whether it is to be answered.
+// Four fields are those of `Asked`, which is the state before: what is asked has a number that need be no method's, what is sent has a method.
 #[derive(Clone, Copy, Debug, PartialEq, Eq)]
 pub struct Sending {
     pub level: Level,
@@ -28,9 +28,9 @@ pub struct Sending {
     pub answered: bool,
 }
 
-/// What an object of a level gets of an argument that is sent at another: the value with both labels joined, or the mark *withheld* where that
+/// What an object of a level gets of a value that comes to it at another: the value with both labels joined, or the mark *withheld* where that
 /// does not flow to the object's level.
-fn mask<O: Order>(order: &O, level: Level, at: Level, layer: Layer, x: Labelled) -> Made
+pub fn mask<O: Order>(order: &O, level: Level, at: Level, layer: Layer, x: Labelled) -> Made
     ensures { made_of result ≡ shown (O.Order.levels order.now) [] level at layer x }
 {
     match join_within(order, x.label, at, level) {
@@ -57,7 +57,7 @@ fn masked<O: Order>(
     ensures same { SameButNotes tables.old tables.new }
 {
     let mut locals = [zero(sending.level); 8];
-    // A `for` over the arguments and their places, by a rule of the project: each is masked by itself, and files a note.
+    // A `for`, and no chain: each argument files its note in the tables, and of tables that a closure altered nothing is known.
     for (i, x) in arguments.iter().enumerate() {
         let made = mask(order, level, sending.level, sending.layer, *x);
         locals[i] = settle(order, tables, sending.context, sending.place, made);
@@ -73,11 +73,11 @@ fn open_future(tables: &mut Tables, level: Level, answered: bool) -> Option<u8>
     ensures futures { futures_of tables.new ≡ with_future (futures_of tables.old) level answered }
     ensures same { SameButFutures tables.old tables.new }
 {
-    // A test, and no `then`: of tables that a closure altered nothing is known.
     if !answered {
         return None;
     }
-    let number = tables.futures.add(level as usize, Future::Open).ok()?;
+    let number = tables.futures.add(usize::from(level), Future::Open).ok()?;
+    // `as`: the place is below 32, and a `try_from` would add a failure that never comes.
     Some(number as u8)
 }
 
@@ -104,6 +104,6 @@ pub fn send<O: Order>(
         next: 0,
         owed,
     };
-    let _ = tables.calls.add(sending.level as usize, call);
+    let _ = tables.calls.add(usize::from(sending.level), call);
     owed
 }

@@ -21,6 +21,6 @@ returns-clause-state g c =
     state_is t t₃ _ _ _ _
     (objects_stay t t₃ (f.same.objects ∙ m.same.objects))
     (f.futures ∙ ap (λ fs. with_future fs s.level s.answered) futures)
-    (c.add.ensures.lines ∙ line_more (calls_of t) (calls_of t₂) s.level _ _ calls (place-free (state_of t) s.level s.answered c.requires.room)
+    (c.add.ensures.lines ∙ line_more (calls_of t) (calls_of t₂) s.level _ _ _ c.from.ensures calls (place-free (state_of t) s.level s.answered c.requires.room)
     (call_new (state_of t) s.level s.receiver s.method _ c.masked-locals.result s.answered c.open_future-owed.result m.locals owed))
     (notes_stay t₁ t₃ f.same.notes ∙ m.notes)
