@@ -2,3 +2,5 @@ pub mod Numbers
 pub mod Turning
 pub mod Operations
 pub mod Fetching
+pub mod Asking
+pub mod Creating

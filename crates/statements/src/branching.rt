@@ -44,8 +44,8 @@ fn raised<O: Order>(
 {
     if any_assigns(statements, x) {
         Labelled {
-            value: held.value,
             label: order.join(held.label, by),
+            ..held
         }
     } else {
         held
@@ -77,6 +77,7 @@ impl<'a> Step<'a> {
         let start = self.at + 1;
         let branches = &self.frame.body[start..start + count];
         let Variables { locals, fields } = *variables;
+        // `as` fits: there are eight places of each kind.
         variables.locals = array::from_fn(|i| {
             raised(order, by, branches, Variable::Local(i as u8), locals[i])
         });
@@ -101,14 +102,11 @@ impl<'a> Step<'a> {
     {
         let guard = variables.read(guard);
         let start = self.at + 1;
-        let middle = start + first as usize;
-        let end = middle + second as usize;
-        self.raise(
-            order,
-            variables,
-            guard.label,
-            first as usize + second as usize,
-        );
+        let first = usize::from(first);
+        let second = usize::from(second);
+        let middle = start + first;
+        let end = middle + second;
+        self.raise(order, variables, guard.label, first + second);
         let context = order.join(guard.label, self.context);
         pick(
             guard.value,

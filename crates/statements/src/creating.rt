@@ -1,10 +1,9 @@
 //! O: a new object.
 ghost use Rattle.std.specs.Prelude.{◌≡◌, ◌<◌};
-ghost use Rattle.std.specs.Option.{ForSome};
 ghost use Rattle.rules.specs.Wrapper.{unmakeable};
-ghost use Rattle.rules.specs.Statements.{created};
 ghost use Rattle.store.specs.States.{state_of};
-ghost use Rattle.statements.specs.Turning.{working, program_of, scene_of_frame};
+ghost use Rattle.statements.specs.Turning.{working, program_of};
+ghost use Rattle.statements.specs.Creating.{created_by};
 
 use crate::frame::Step;
 use crate::giving::refusal_mark;
@@ -14,6 +13,7 @@ use rules::tables::Layer;
 use rules::values::{Labelled, Value};
 use store::tables::Tables;
 use wrapper::making::make_object;
+use wrapper::noting::Made;
 
 impl<'a> Step<'a> {
     /// O: makes an object with the context as its home, and its variable becomes the object's name; or a mark, where it is not made.
@@ -26,9 +26,10 @@ impl<'a> Step<'a> {
         level: Level,
     )
         requires { self.now.context < (O.Order.levels order.now).count }
-        ensures { ForSome self.now.to (λ to. working variables.new tables.new ≡ created (O.Order.levels order.now) (program_of self.now.frame) (scene_of_frame self.now.frame) self.now.context self.now.at to class level (working variables.old tables.old) (unmakeable (O.Order.levels order.now) (program_of self.now.frame) (state_of tables.old) self.now.context class level)) }
+        ensures { working variables.new tables.new ≡ created_by (O.Order.levels order.now) self.now class level (unmakeable (O.Order.levels order.now) (program_of self.now.frame) (state_of tables.old) self.now.context class level) (working variables.old tables.old) }
     {
-        match make_object(
+        // By a match: both are a `Made`, and a closure for each would be no shorter.
+        let made = match make_object(
             order,
             self.frame.classes,
             tables,
@@ -36,18 +37,12 @@ impl<'a> Step<'a> {
             class,
             level,
         ) {
-            Ok(name) => {
-                let made = Labelled {
-                    value: Value::ObjectName(name),
-                    label: self.context,
-                };
-                self.frame
-                    .put(order, variables, self.context, self.to, made);
-            }
-            Err(why) => {
-                let made = refusal_mark(why, Layer::AtStatement, self.context);
-                self.give(order, variables, tables, made);
-            }
-        }
+            Ok(name) => Made::Plain(Labelled {
+                value: Value::ObjectName(name),
+                label: self.context,
+            }),
+            Err(why) => refusal_mark(why, Layer::AtStatement, self.context),
+        };
+        self.give(order, variables, tables, made);
     }
 }

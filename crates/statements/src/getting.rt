@@ -1,22 +1,23 @@
 //! G: what a future gives.
 ghost use Rattle.std.specs.Prelude.{◌≡◌, slice_index_or};
-ghost use Rattle.std.specs.Option.{ForSome};
 ghost use Rattle.rules.specs.declared.tables.Future.TheVariants.{Open};
 ghost use Rattle.rules.specs.Statements.{read, opened, fetched};
 ghost use Rattle.store.specs.States.{state_of, futures_of};
-ghost use Rattle.stepper.specs.Halves.{taken, waiting};
+ghost use Rattle.stepper.specs.Halves.{waiting};
 ghost use Rattle.statements.specs.Turning.{working, program_of, scene_of_frame};
-ghost use Rattle.statements.specs.Fetching.{fetched_of};
+ghost use Rattle.statements.specs.Fetching.{fetched_of, taken_by};
 
 use crate::frame::{Frame, Step};
+use crate::giving::wrong_kind;
 use crate::variables::Variables;
-use order::{Level, Order, join_within};
+use order::{Level, Order};
 use rules::tables::{Event, Future, Layer};
 use rules::values::{Labelled, Mark, Name, Value};
 use script::class::Variable;
 use stepper::machine::Next;
 use store::tables::Tables;
 use wrapper::noting::Made;
+use wrapper::sending::mask;
 
 /// The future of a name; one that was not made counts as open.
 fn future_of(tables: &Tables, name: Name) -> Future
@@ -24,7 +25,7 @@ fn future_of(tables: &Tables, name: Name) -> Future
 {
     tables
         .futures
-        .get(name.home as usize, name.number as usize)
+        .get(usize::from(name.home), usize::from(name.number))
         .unwrap_or(Future::Open)
 }
 
@@ -41,17 +42,7 @@ impl<'a> Frame<'a> {
             });
             return (!order.flows(level, self.called_at)).then_some(not_yet);
         };
-        Some(match join_within(order, value.label, level, self.level) {
-            Some(label) => Made::Plain(Labelled {
-                value: value.value,
-                label,
-            }),
-            None => Made::Fresh {
-                mark: Mark::Withheld,
-                layer: Layer::AtFuture,
-                label: self.level,
-            },
-        })
+        Some(mask(order, self.level, level, Layer::AtFuture, value))
     }
 }
 
@@ -66,11 +57,7 @@ impl<'a> Step<'a> {
                 self.frame.open(order, level, future_of(tables, name))
             }
             Value::Marked(_) => Some(Made::Plain(future)),
-            _ => Some(Made::Fresh {
-                mark: Mark::WrongKind,
-                layer: Layer::AtStatement,
-                label: future.label,
-            }),
+            _ => Some(wrong_kind(future.label)),
         }
     }
 
@@ -83,7 +70,7 @@ impl<'a> Step<'a> {
         future: Variable,
     ) -> Next
         ensures next { result ≡ waiting (fetched (O.Order.levels order.now) (program_of self.now.frame) (scene_of_frame self.now.frame) (state_of tables.old) self.now.context (read (working variables.old tables.old) future).value (read (working variables.old tables.old) future).label) }
-        ensures does { ForSome self.now.to (λ to. working variables.new tables.new ≡ taken (O.Order.levels order.now) (program_of self.now.frame) (scene_of_frame self.now.frame) self.now.context self.now.at to (working variables.old tables.old) (fetched (O.Order.levels order.now) (program_of self.now.frame) (scene_of_frame self.now.frame) (state_of tables.old) self.now.context (read (working variables.old tables.old) future).value (read (working variables.old tables.old) future).label)) }
+        ensures does { working variables.new tables.new ≡ taken_by (O.Order.levels order.now) self.now (fetched (O.Order.levels order.now) (program_of self.now.frame) (scene_of_frame self.now.frame) (state_of tables.old) self.now.context (read (working variables.old tables.old) future).value (read (working variables.old tables.old) future).label) (working variables.old tables.old) }
     {
         let Some(made) = self.fetch(order, tables, variables.read(future)) else {
             return Next::Hold;

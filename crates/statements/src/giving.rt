@@ -1,7 +1,9 @@
 //! Results, and where they go.
 ghost use Rattle.std.specs.Prelude.{◌≡◌, ◌+◌, ◌<◌};
 ghost use Rattle.std.specs.Option.{ForSome};
+ghost use Rattle.rules.specs.declared.values.Mark.TheVariants.{WrongKind};
 ghost use Rattle.rules.specs.declared.tables.Layer.TheVariants.{AtObject, AtStatement};
+ghost use Rattle.rules.specs.Values.{fresh};
 ghost use Rattle.rules.specs.Tables.{State};
 ghost use Rattle.rules.specs.Statements.{settled, put, call_mark, object_mark};
 ghost use Rattle.wrapper.specs.Marks.{made_of, place_of};
@@ -38,6 +40,17 @@ pub(crate) fn refusal_mark(why: Refusal, layer: Layer, label: Level) -> Made
     }
 }
 
+/// The mark *wrong kind* of a statement, with a label.
+pub(crate) fn wrong_kind(label: Level) -> Made
+    ensures { made_of result ≡ fresh WrongKind AtStatement label }
+{
+    Made::Fresh {
+        mark: Mark::WrongKind,
+        layer: Layer::AtStatement,
+        label,
+    }
+}
+
 impl<'a> Frame<'a> {
     /// The label of a result in a variable: its own joined with the context and, in a field, with the floor.
     fn settled<O: Order>(&self, order: &O, context: Level, to: Variable, label: Level) -> Level
@@ -64,13 +77,7 @@ impl<'a> Frame<'a> {
     {
         if let Some(to) = to {
             let label = self.settled(order, context, to, value.label);
-            variables.store(
-                to,
-                Labelled {
-                    value: value.value,
-                    label,
-                },
-            );
+            variables.store(to, Labelled { label, ..value });
         }
     }
 }
@@ -80,6 +87,7 @@ impl<'a> Step<'a> {
     pub fn place(&self) -> Place
         ensures { place_of result ≡ record { class = self.now.frame.class; method = self.now.frame.method; statement = self.now.at + 1 } }
     {
+        // `as` fits: a body has at most 32 statements.
         Place {
             class: self.frame.class,
             method: self.frame.method,

@@ -7,10 +7,10 @@ ghost use Rattle.statements.specs.Turning.{working, program_of, scene_of_frame, 
 ghost use Rattle.statements.specs.Operations.{on_numbers};
 
 use crate::frame::Step;
+use crate::giving::wrong_kind;
 use crate::variables::Variables;
 use order::Order;
-use rules::tables::Layer;
-use rules::values::{Labelled, Mark, Value};
+use rules::values::{Labelled, Value};
 use script::class::Variable;
 use store::tables::Tables;
 use wrapper::noting::Made;
@@ -35,7 +35,7 @@ impl Operation {
         match self {
             Operation::Sum => left.saturating_add(right),
             Operation::Difference => left.saturating_sub(right),
-            Operation::Comparison => { if left < right { 1 } else { 0 } }
+            Operation::Comparison => i32::from(left < right),
         }
     }
 
@@ -49,11 +49,7 @@ impl Operation {
                 value: Value::Number(self.on_numbers(x, y)),
                 label,
             }),
-            _ => Made::Fresh {
-                mark: Mark::WrongKind,
-                layer: Layer::AtStatement,
-                label,
-            },
+            _ => wrong_kind(label),
         }
     }
 }

@@ -10,7 +10,7 @@ use std::marker::Model;
 use wrapper::making::zero;
 
 /// The values that a call passes on, in order: at most four.
-// They lie in the value itself, since sending a call allocates nothing; an `ArrayVec` asks for a `Default`, which no value has here.
+// In the value itself, since sending a call allocates nothing. An `ArrayVec` asks for a `Default`: one by hand, and its pushes, would be no shorter.
 #[derive(Drop)]
 pub struct Passed {
     values: [Labelled; 4],

@@ -22,7 +22,7 @@ pub struct Variables {
 fn held(places: &[Labelled; 8], number: u8) -> Labelled
     ensures { result ≡ slice_index_or places.now number blank }
 {
-    places.get(number as usize).copied().unwrap_or(zero(0))
+    places.get(usize::from(number)).copied().unwrap_or(zero(0))
 }
 
 impl Variables {
@@ -42,8 +42,8 @@ impl Variables {
         ensures { (σ : State) → running_of self.new σ ≡ stored (running_of self.old σ) to value }
     {
         match to {
-            Variable::Local(number) => self.locals[number as usize] = value,
-            Variable::Field(number) => self.fields[number as usize] = value,
+            Variable::Local(number) => self.locals[usize::from(number)] = value,
+            Variable::Field(number) => self.fields[usize::from(number)] = value,
         }
     }
 }
