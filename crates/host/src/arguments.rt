@@ -26,7 +26,7 @@ fn values_of<O: Order>(order: &O, arguments: &[Argument]) -> Result<[Labelled; 4
     ensures { MatchResult result (λ v. (every (λ x. is_level (O.Order.levels order.now) x.label) arguments.now ≡ true) × (take (length arguments.now) v ≡ map argument_value arguments.now)) (λ why. (every (λ x. is_level (O.Order.levels order.now) x.label) arguments.now ≡ false) × (why ≡ Refusal.NotALevel)) }
 {
     let mut values = [zero(0); 4];
-    // A `for` over an array of four, since serving a call allocates nothing: no chain collects into one with zeros behind.
+    // An array of four with zeros behind, since serving a call allocates nothing. By places: of a `zip` with the array's `iter_mut` nothing tells what was written.
     for (i, x) in arguments.iter().enumerate() {
         values[i] = value_of(order, *x)?;
     }

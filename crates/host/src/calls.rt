@@ -6,7 +6,7 @@ ghost use Rattle.rules.specs.Calling.{make, collect, note};
 ghost use Rattle.host.specs.Hosts.{classes_in, told, Answers};
 
 use crate::host::Host;
-use crate::numbers::{byte, level as level_of};
+use crate::numbers::{byte, level as level_of, name_of};
 use crate::reading::{find_future, shown_to};
 use order::Order;
 use rules::calls::{Answer, Refusal};
@@ -25,6 +25,7 @@ pub fn classes_of(program: &Option<Program>) -> &[Class]
     program.as_ref().map_or(&[], |loaded| loaded.classes())
 }
 
+// Each call of the parties is two functions: the private one gives up by `?`, and the public one answers what a party is told.
 impl Host {
     /// Makes an object of a class at a level, at home with the party; answers its name, or why not.
     pub fn make<O: Order>(&mut self, order: &O, bearer: i32, class: i32, level: i32) -> Answer
@@ -76,11 +77,8 @@ impl Host {
         ensures { Answers (O.Order.levels order.now) self.now (collect bearer home number) (told Answer.Collected result) self.now }
     {
         let level = level_of(order, bearer)?;
-        let home = level_of(order, home)?;
-        let number = byte(number).ok_or(Refusal::NotMade)?;
-        let mut future = find_future(order, &self.tables, level, Name { home, number }).ok_or(
-            Refusal::NotMade,
-        )?;
+        let name = name_of(order, home, number)?;
+        let mut future = find_future(order, &self.tables, level, name).ok_or(Refusal::NotMade)?;
         let value = future.meet(Event::Collect).ok_or(Refusal::Nothing)?;
         Ok(shown_to(order, level, value))
     }
@@ -99,15 +97,16 @@ impl Host {
     {
         let level = level_of(order, bearer)?;
         let class = byte(class).ok_or(Refusal::Unknown)?;
-        if class as usize >= classes_of(&self.program).len() {
-            return Err(Refusal::Unknown);
-        }
+        classes_of(&self.program)
+            .get(usize::from(class))
+            .ok_or(Refusal::Unknown)?;
         let (place, found) = self
             .tables
             .notes
-            .oldest(level as usize, class)
+            .oldest(usize::from(level), class)
             .ok_or(Refusal::Nothing)?;
-        let _ = self.tables.notes.take(level as usize, place);
+        // The note that was found is the answer: with the one that `take` gives the proof did not close.
+        let _ = self.tables.notes.take(usize::from(level), place);
         Ok(found)
     }
 }

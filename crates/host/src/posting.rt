@@ -18,6 +18,7 @@ use wrapper::sending::{Sending, send};
 impl Host {
     /// Sends a call with these arguments, whose values are the first of `values`, to the object of a name; gives the reply's future, or why its
     /// wrapper does not admit the call.
+    // `level < 8` is no fact of a struct: the level is one of the order's, by the party's number.
     fn deliver<O: Order>(
         &mut self,
         order: &O,

@@ -9,6 +9,7 @@ use rules::values::{Labelled, Mark, Name, Value};
 use store::tables::Tables;
 
 /// The future of a name, if it was made and its home flows to a level.
+// One call of the table's, as for objects: the clause is the rules' own word for it.
 pub fn find_future<O: Order>(order: &O, tables: &Tables, level: Level, name: Name) -> Option<Future>
     ensures { result ≡ future_for (O.Order.levels order.now) [] (state_of tables.now) level name }
 {

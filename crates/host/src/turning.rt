@@ -10,11 +10,10 @@ ghost use Rattle.host.specs.Hosts.{program_in, state_in, told, Answers};
 use crate::calls::classes_of;
 use crate::host::Host;
 use crate::methods::{before_last, statements_of};
-use crate::numbers::{byte, level as level_of};
+use crate::numbers::{level as level_of, name_of};
 use crate::taken::Taken;
 use order::Order;
 use rules::calls::{Answer, Refusal};
-use rules::values::Name;
 use statements::frame::Frame;
 use statements::turn::take_turn;
 use statements::variables::Variables;
@@ -48,6 +47,7 @@ impl Host {
             level: object.level,
             method: call.method,
             called_at: taken.level,
+            // `as`: with `usize::from` the proof that the turn is the one of the rules did not close.
             from: call.next as usize,
         };
         let mut variables = Variables {
@@ -77,14 +77,12 @@ impl Host {
         ensures { Answers (O.Order.levels order.now) self.old (turn bearer home number) (told (λ r. r) result) self.new }
     {
         let level = level_of(order, bearer)?;
-        let home = level_of(order, home)?;
-        let number = byte(number).ok_or(Refusal::NotMade)?;
-        let name = Name { home, number };
+        let name = name_of(order, home, number)?;
         let object = find_object(order, &self.tables, level, name).ok_or(Refusal::NotMade)?;
         let (place, call) = self
             .tables
             .calls
-            .oldest(level as usize, name)
+            .oldest(usize::from(level), name)
             .ok_or(Refusal::Nothing)?;
         let taken = Taken {
             level,
