@@ -19,6 +19,7 @@ use std::io::Read;
 fn read_input(rt: &HostRuntime) -> anyhow::Result<Vec<u8>> {
     let mut input = Vec::new(rt.alloc());
     rt.stdin()
+        // `as`: a `usize` has no `From` into a `u64`.
         .take(MOST_BYTES as u64 + 1)
         .read_to_end(&mut input)
         .map_err(|_| anyhow!("standard input cannot be read"))?;
@@ -34,6 +35,7 @@ fn table_of(heap: Global, input: &[u8]) -> Result<String, AllocError>
     }
     let parts = split(input);
     let calls = Calls::read(heap, parts.rows)?;
+    // By a match: a text that does not load has a table too, and only want of memory goes up.
     match serve(heap, &Ladder {}, parts.text, calls.requests.as_slice()) {
         Ok(served) => answers_table(heap, calls.readable.as_slice(), served.answers.as_slice()),
         Err(LoadError::Fault(fault)) => fault_table(heap, &fault),

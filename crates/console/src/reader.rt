@@ -46,18 +46,11 @@ pub enum Word {
     Note,
 }
 
-/// A number that is not negative, as an unsigned one.
-fn unsigned(n: i32) -> Option<u32>
-    ensures { result ≡ natural n }
-{
-    u32::try_from(n).ok()
-}
-
 /// The word of a call.
 fn call_word(reader: &mut Reader<'_>) -> Result<Word, RowError>
     ensures { Gives itself result (word_at (left reader.old)) reader.new }
 {
-    // A test for each word: a table would have as many lines, one for each word, and a loop over them besides.
+    // A test for each word: a `match`, or a `TryFrom`, asks for the word's bytes, and how many they are is known only once the word is read.
     let word = if reader.spells(b"make") {
         Word::Make
     } else if reader.spells(b"post") {
@@ -90,6 +83,7 @@ fn arguments(heap: Global, reader: &mut Reader<'_>, count: u32) -> Result<Vec<Ar
     ensures { Gives vec_items result (arguments_on [] count (left reader.old)) reader.new }
 {
     let mut arguments = Vec::new(heap);
+    // A `for`: each turn reads on, which a closure would hide.
     for _ in 0..count {
         arguments.push(argument(reader)?)?;
     }
@@ -104,7 +98,7 @@ fn counted_arguments(
 ) -> Result<Vec<Argument>, RowError>
     ensures { Gives vec_items result (arguments_for (natural count) (left reader.old)) reader.new }
 {
-    let count = unsigned(count).ok_or(RowError::Unreadable)?;
+    let count = u32::try_from(count).map_err(|_| RowError::Unreadable)?;
     arguments(heap, reader, count)
 }
 

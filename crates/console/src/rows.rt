@@ -27,6 +27,7 @@ pub fn read_row(heap: Global, line: &[u8]) -> Result<Option<Request>, AllocError
     let Some(row) = line.strip_suffix(b"\n") else {
         return Ok(None);
     };
+    // By a match: a row that cannot be read is an answer, and only want of memory goes up.
     match whole_request(heap, row) {
         Ok(request) => Ok(Some(request)),
         Err(RowError::Unreadable) => Ok(None),

@@ -40,6 +40,7 @@ pub fn answers_table(
 {
     let mut table = String::from_str(heap, NAMES)?;
     let mut rest = answers;
+    // A `for`: a row takes an answer only where it could be read, so what is left of the answers goes on from turn to turn.
     for (i, known) in readable.iter().enumerate() {
         let (row, others) = first_row(*known, rest);
         put_row(&mut table, i + 1, row)?;
