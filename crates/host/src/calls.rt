@@ -105,7 +105,7 @@ impl Host {
             .notes
             .oldest(usize::from(level), class)
             .ok_or(Refusal::Nothing)?;
-        // The note that was found is the answer: with the one that `take` gives the proof did not close.
+        // The note that was found is the answer: from what `take` gives there would be one refusal more, which cannot come.
         let _ = self.tables.notes.take(usize::from(level), place);
         Ok(found)
     }

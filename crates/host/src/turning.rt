@@ -47,8 +47,7 @@ impl Host {
             level: object.level,
             method: call.method,
             called_at: taken.level,
-            // `as`: with `usize::from` the proof that the turn is the one of the rules did not close.
-            from: call.next as usize,
+            from: usize::from(call.next),
         };
         let mut variables = Variables {
             locals: call.locals,

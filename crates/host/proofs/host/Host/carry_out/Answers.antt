@@ -43,7 +43,7 @@ returns g c =
     let short : length c.before_last.result.now ≤ 32 = subst (λ (b : List Statement). length b ≤ 32) (sym body) (body_short 8 (classes_of cs) ok class method) in
     record {
       does =
-          c.take_turn-outcome.ensures.does
+          (rw c.from.ensures at c.take_turn-outcome.ensures.does)
           ∙ turned-is o cs (classes_in h.program) (state_in h) c.args.taken.now.level c.args.taken.now.name (object_of c.args.taken.now.object) (call_of c.args.taken.now.call) c.before_last.result.now
           c.classes_of-classes.ensures.is body;
       place = stops_short (length c.before_last.result.now) c.take_turn-outcome.result short c.take_turn-outcome.ensures.place;
