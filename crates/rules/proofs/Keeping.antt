@@ -72,6 +72,10 @@ noted_grows σ notes = record { objects = λ n c l s. s; futures = λ h i x e. e
 pub no_verdict : {A : Type 0} {why : Refusal} {b : Object} → refused why ≡ admitted b → A
 no_verdict {why = why} {b = b} e = let z : ◌≡◌ {A = ℕ} 0 1 = cc in absurd (omega arith)
 
+taking-is : (count : ℕ) (mm : Option Method) (m : Method) → taking count mm ≡ Some m → mm ≡ Some m
+taking-is count None m e = no_some refl e
+taking-is count (Some n) m e = elim (either (eqb n.parameters count)) [ inl t ↦ rw t at e | inr t ↦ no_some refl (rw t at e) ]
+
 pub record Admits (o : Levels) (program : Program) (σ : State) (s : ℕ) (n : Name) (method : Option ℕ) (answered : Bool) (b : Object) : Type 0 where
   pub at : nth (σ.objects n.home) n.number ≡ Some b
   pub home : o.flow n.home s ≡ true
@@ -123,6 +127,12 @@ module _ (o : Levels) (program : Program) (σ : State) (s : ℕ) (n : Name) (ans
 
 module _ (o : Levels) (program : Program) (l : Laws o) where
   open l use {from, to, itself, through, bottom, level, left, right, least}
+
+  pub homed_up : (v : Value) (a b : ℕ) → Homed o v a → o.flow a b ≡ true → Homed o v b
+  homed_up (Number k) a b h f = tt
+  homed_up (ObjectName n) a b h f = through _ a b h f
+  homed_up (FutureName n) a b h f = through _ a b h f
+  homed_up (Marked k) a b h f = tt
 
   pub homed_join : (v : Value) (a b : ℕ) → b < o.count → Homed o v a → Homed o v (o.join a b)
   homed_join (Number k) a b c h = tt

@@ -23,6 +23,9 @@ eq_refl n = grind (arith, nat_tests)
 pub eq_is : (a b : ℕ) → eqb a b ≡ true → a ≡ b
 eq_is a b e = grind (arith, nat_tests)
 
+pub not_eq : (a b : ℕ) → (a ≡ b → ⊥) → eqb a b ≡ false
+not_eq a b h = elim (either (eqb a b)) [ inl e ↦ absurd (h (eq_is a b e)) | inr e ↦ e ]
+
 pub both_left : (a b : Bool) → (a && b) ≡ true → a ≡ true
 both_left true b h = refl
 both_left false b h = h
@@ -148,6 +151,11 @@ length_without (suc q) (y ∷ xs) x e = ap suc (length_without q xs x e)
 pub length-snoc : {X : Type 0} (xs : List X) (y : X) → length (snoc xs y) ≡ suc (length xs)
 length-snoc [] y = refl
 length-snoc (x ∷ xs) y = ap suc (length-snoc xs y)
+
+pub get_or-nth : {X : Type 0} (xs : List X) (i : ℕ) (d x : X) → nth xs i ≡ Some x → get_or xs i d ≡ x
+get_or-nth [] i d x e = no_some refl e
+get_or-nth (y ∷ xs) zero d x e = some_one refl e
+get_or-nth (y ∷ xs) (suc i) d x e = get_or-nth xs i d x e
 
 pub get_or_cases : {X : Type 0} (P : X → Type 0) (xs : List X) (i : ℕ) (d : X) → P d → ((x : X) → nth xs i ≡ Some x → P x) → P (get_or xs i d)
 get_or_cases P [] i d h k = h

@@ -76,6 +76,11 @@ owed_without_none [] p c e h = no_some refl e
 owed_without_none (b ∷ cs) zero c e h = let q : b ≡ c = some_one refl e in rw (q, h)
 owed_without_none (b ∷ cs) (suc p) c e h = ap (owes b.owed) (owed_without_none cs p c e h)
 
+-- where the number of a call stands among those that are owed
+owes_at : (d : Option ℕ) (q : ℕ) → ℕ
+owes_at None q = q
+owes_at (Some n) q = suc q
+
 record Gone (n : ℕ) (before after : List ℕ) : Type 0 where
   place : ℕ
   stood : nth before place ≡ Some n

@@ -4,3 +4,4 @@ pub mod Operations
 pub mod Fetching
 pub mod Asking
 pub mod Creating
+pub mod Passing

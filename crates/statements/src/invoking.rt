@@ -9,6 +9,7 @@ ghost use Rattle.statements.specs.Turning.{working, program_of, scene_of_frame};
 
 use crate::frame::Step;
 use crate::giving::{refusal_mark, wrong_kind};
+pub use crate::passing::Passed;
 use crate::variables::Variables;
 use order::{Level, Order};
 use rules::calls::Refusal;

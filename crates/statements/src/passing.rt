@@ -6,32 +6,23 @@ ghost use Rattle.rules.specs.Statements.{passed};
 use crate::variables::Variables;
 use rules::values::Labelled;
 use script::class::Arguments;
-use std::marker::Model;
 use wrapper::making::zero;
 
-/// The values that a call passes on, in order: at most four.
-// In the value itself, since sending a call allocates nothing. An `ArrayVec` asks for a `Default`: one by hand, and its pushes, would be no shorter.
-#[derive(Drop)]
+/// The values that a call passes on: the first `count` of four.
+// In the value itself, since sending a call allocates nothing. An `ArrayVec` asks for a `Default`, and is no `Copy`: what was a `Copy` stays one.
+#[derive(Clone, Copy)]
 pub struct Passed {
-    values: [Labelled; 4],
-    count: usize,
-}
-
-impl Model for Passed {
-    ghost use Rattle.std.specs.Prelude.{◌≤◌, List, take};
-    ghost use Rattle.rules.specs.declared.values.Labelled.{Labelled};
-
-    ghost Value = { List Labelled };
-
-    ghost view = { λ p. take p.count p.values };
-
-    ghost invariant = { λ p. p.count ≤ 4 };
+    pub values: [Labelled; 4],
+    pub count: usize,
+    pub ghost few: { count ≤ 4 },
 }
 
 impl Passed {
-    /// The values.
+    ghost use Rattle.statements.specs.Passing.{values_of};
+
+    /// The values, in order.
     pub fn as_slice(&self) -> &[Labelled]
-        ensures values { result.now ≡ self.now }
+        ensures values { result.now ≡ values_of self.now }
         ensures few { length result.now ≤ 4 }
     {
         &self.values[..self.count]
@@ -39,11 +30,12 @@ impl Passed {
 }
 
 impl Variables {
+    ghost use Rattle.statements.specs.Passing.{values_of};
     ghost use Rattle.statements.specs.Turning.{running_of};
 
     /// The values that a call passes on, in order.
     pub fn passed(&self, arguments: Arguments) -> Passed
-        ensures { (σ : State) → result ≡ passed (running_of self.now σ) arguments }
+        ensures { (σ : State) → values_of result ≡ passed (running_of self.now σ) arguments }
     {
         let none = zero(0);
         match arguments {

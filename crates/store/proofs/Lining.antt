@@ -16,7 +16,7 @@ use Rattle.store.specs.Lines.{lines_of, found_of}
 
 -- OF LISTS
 
-nth-map : {X Y : Type 0} (f : X → Y) (xs : List X) (i : ℕ) → option_map f (nth_slot xs i) ≡ nth (map f xs) i
+pub nth-map : {X Y : Type 0} (f : X → Y) (xs : List X) (i : ℕ) → option_map f (nth_slot xs i) ≡ nth (map f xs) i
 nth-map f [] i = refl
 nth-map f (x ∷ xs) zero = refl
 nth-map f (x ∷ xs) (suc i) = nth-map f xs i
@@ -26,30 +26,47 @@ nth-kept f [] i x h e = absurd (omega arith)
 nth-kept f (y ∷ xs) zero x h e = ap (λ z. Some (f z)) e
 nth-kept f (y ∷ xs) (suc i) x h e = nth-kept f xs i x (omega arith) e
 
+nth-within : {X : Type 0} (xs : List X) (i : ℕ) (x : X) → Some x ≡ nth_slot xs i → i < length xs
+nth-within [] i x h = let z : ◌≡◌ {A = ℕ} 0 1 = cc in absurd (omega arith)
+nth-within (y ∷ xs) zero x h = omega arith
+nth-within (y ∷ xs) (suc i) x h = let w = nth-within xs i x h in omega arith
+
 -- one that is put or taken where none stands changes nothing
-set-none : {X Y : Type 0} (f : X → Y) (xs : List X) (i : ℕ) (y : Y) → is_some (nth_slot xs i) ≡ false → set (map f xs) i y ≡ map f xs
+pub set-none : {X Y : Type 0} (f : X → Y) (xs : List X) (i : ℕ) (y : Y) → is_some (nth_slot xs i) ≡ false → set (map f xs) i y ≡ map f xs
 set-none f [] i y h = refl
 set-none f (x ∷ xs) zero y h = let z : ◌≡◌ {A = ℕ} 0 1 = cc in absurd (omega arith)
 set-none f (x ∷ xs) (suc i) y h = ap (λ l. f x ∷ l) (set-none f xs i y h)
 
-without-none : {X Y : Type 0} (f : X → Y) (xs : List X) (i : ℕ) → None ≡ nth_slot xs i → without i (map f xs) ≡ map f xs
+pub without-none : {X Y : Type 0} (f : X → Y) (xs : List X) (i : ℕ) → None ≡ nth_slot xs i → without i (map f xs) ≡ map f xs
 without-none f [] zero h = refl
 without-none f [] (suc i) h = refl
 without-none f (x ∷ xs) zero h = let z : ◌≡◌ {A = ℕ} 0 1 = cc in absurd (omega arith)
 without-none f (x ∷ xs) (suc i) h = ap (λ l. f x ∷ l) (without-none f xs i h)
 
-map_removed : {X Y : Type 0} (f : X → Y) (xs : List X) (i : ℕ) → map f (remove xs i) ≡ without i (map f xs)
+pub map_removed : {X Y : Type 0} (f : X → Y) (xs : List X) (i : ℕ) → map f (remove xs i) ≡ without i (map f xs)
 map_removed f [] zero = refl
 map_removed f [] (suc i) = refl
 map_removed f (y ∷ ys) zero = refl
 map_removed f (y ∷ ys) (suc i) = ap (λ l. f y ∷ l) (map_removed f ys i)
+
+pub map-without : {X Y : Type 0} (f : X → Y) (xs : List X) (i : ℕ) → map f (without i xs) ≡ without i (map f xs)
+map-without f [] zero = refl
+map-without f [] (suc i) = refl
+map-without f (y ∷ ys) zero = refl
+map-without f (y ∷ ys) (suc i) = ap (λ l. f y ∷ l) (map-without f ys i)
+
+-- what is set past the end changes nothing
+pub set_past : {X : Type 0} (xs : List X) (i : ℕ) (x : X) → length xs ≤ i → set xs i x ≡ xs
+set_past [] i x h = refl
+set_past (y ∷ ys) zero x h = absurd (omega arith)
+set_past (y ∷ ys) (suc i) x h = ap (λ l. y ∷ l) (set_past ys i x (omega arith))
 
 pub free-new : (X : Type 0) (n : ℕ) → free {X = X} (replicate n None) ≡ true
 free-new X zero = refl
 free-new X (suc n) = free-new X n
 
 -- what is set to what it is changes nothing
-updated_same : {X : Type 0} (f : ℕ → X) (level : ℕ) (x : X) → x ≡ f level → f ≡ update f level x
+pub updated_same : {X : Type 0} (f : ℕ → X) (level : ℕ) (x : X) → x ≡ f level → f ≡ update f level x
 updated_same f level x e =
     fun_ext (λ k. elim (cases_eq level k) [
       | inl same ↦ ap f (sym same) ∙ sym e ∙ sym (cond-true (eqb level k) x (f k) (eq-eqb level k same))
@@ -78,7 +95,7 @@ module _ {X Y : Type 0} (f : X → Y) (of_key : X → Bool) (test : Y → Bool) 
         | inr t ↦ rw (agrees x, t) (looked_from (n + 1) xs ∙ shifted-later n (oldest test (map f xs)))
       ]
 
-  looked : (xs : List X) → option_map (found_of f) (oldest_slot of_key xs) ≡ oldest test (map f xs)
+  pub looked : (xs : List X) → option_map (found_of f) (oldest_slot of_key xs) ≡ oldest test (map f xs)
   looked xs = looked_from 0 xs ∙ shifted_none (oldest test (map f xs))
 
 -- OF TABLES
@@ -122,7 +139,7 @@ module _ {X Y : Type 0} {room slots : ℕ} (f : X → Y) where
   no_lines table e = fun_ext (λ level. ap (map f) (free-elements (part room level table.slots) (free-take (level * room + room - level * room) (drop (level * room) table.slots) (free-drop (level * room) table.slots e))))
 
   -- a line is what it became, and the others are as they were
-  lined : (before after : Table X room slots) (level : ℕ) (ys : List Y) → map f (at after level) ≡ ys → OthersStay room level before.slots after.slots → lines_of f after ≡ update (lines_of f before) level ys
+  pub lined : (before after : Table X room slots) (level : ℕ) (ys : List Y) → map f (at after level) ≡ ys → OthersStay room level before.slots after.slots → lines_of f after ≡ update (lines_of f before) level ys
   unfolding lines_of
   lined before after level ys e others =
       fun_ext (λ k. elim (cases_eq level k) [
@@ -153,6 +170,11 @@ module _ {X Y : Type 0} {room slots : ℕ} (f : X → Y) where
   pub taken_was : (table : Table X room slots) (level place : ℕ) (x : X) → place < length (at table level) → x ≡ get_or (at table level) place x → Some (f x) ≡ nth (lines_of f table level) place
   unfolding lines_of
   taken_was table level place x within is = nth-kept f (at table level) place x within is
+
+  -- where something stands, the place is one of the line's
+  pub within_lines : (table : Table X room slots) (level place : ℕ) (x : X) → Some x ≡ nth_slot (at table level) place → place < length (lines_of f table level)
+  unfolding lines_of
+  within_lines table level place x stands = rw (length-map (at table level) f) (nth-within (at table level) place x stands)
 
   -- one element more, or none where the line is full
   pub lines_added : (before after : Table X room slots) (level : ℕ) (e : X) (r : Result ℕ X)

@@ -5,7 +5,7 @@ use Rattle.rules.specs.declared.tables.Future.{Future}
 use Rattle.rules.specs.Tables.{Object, object_of, Call, call_of}
 use Rattle.store.specs.declared.tables.Tables.{Tables}
 use Rattle.store.specs.Lines.{lines_of}
-use Rattle.store.specs.States.{objects_of, futures_of, calls_of, notes_of, state_of}
+use Rattle.store.specs.States.{objects_of, futures_of, calls_of, notes_of, state_of, SameButObjects, SameButFutures, SameButCalls, SameButNotes}
 
 module _ (t u : Tables) where
   pub state_is : (os : ℕ → List Object) (fs : ℕ → List Future) (cs : ℕ → List Call) (ns : ℕ → List Note)
@@ -24,3 +24,20 @@ module _ (t u : Tables) where
 
   pub notes_stay : u.notes ≡ t.notes → notes_of u ≡ notes_of t
   notes_stay e = ap (lines_of (λ n. n)) e
+
+  -- one table changed, and the others stay
+  pub by_objects : (os : ℕ → List Object) → objects_of u ≡ os → SameButObjects t u
+      → state_of u ≡ record { objects = os; futures = futures_of t; calls = calls_of t; notes = notes_of t }
+  by_objects os e s = state_is os _ _ _ e (futures_stay s.futures) (calls_stay s.calls) (notes_stay s.notes)
+
+  pub by_futures : (fs : ℕ → List Future) → futures_of u ≡ fs → SameButFutures t u
+      → state_of u ≡ record { objects = objects_of t; futures = fs; calls = calls_of t; notes = notes_of t }
+  by_futures fs e s = state_is _ fs _ _ (objects_stay s.objects) e (calls_stay s.calls) (notes_stay s.notes)
+
+  pub by_calls : (cs : ℕ → List Call) → calls_of u ≡ cs → SameButCalls t u
+      → state_of u ≡ record { objects = objects_of t; futures = futures_of t; calls = cs; notes = notes_of t }
+  by_calls cs e s = state_is _ _ cs _ (objects_stay s.objects) (futures_stay s.futures) e (notes_stay s.notes)
+
+  pub by_notes : (ns : ℕ → List Note) → notes_of u ≡ ns → SameButNotes t u
+      → state_of u ≡ record { objects = objects_of t; futures = futures_of t; calls = calls_of t; notes = ns }
+  by_notes ns e s = state_is _ _ _ ns (objects_stay s.objects) (futures_stay s.futures) (calls_stay s.calls) e

@@ -34,6 +34,11 @@ pub record SameButFutures (t u : Tables) : Type 0 where
   pub calls : u.calls ≡ t.calls
   pub notes : u.notes ≡ t.notes
 
+pub record SameButCalls (t u : Tables) : Type 0 where
+  pub objects : u.objects ≡ t.objects
+  pub futures : u.futures ≡ t.futures
+  pub notes : u.notes ≡ t.notes
+
 pub record SameButNotes (t u : Tables) : Type 0 where
   pub objects : u.objects ≡ t.objects
   pub futures : u.futures ≡ t.futures

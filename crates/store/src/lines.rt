@@ -1,5 +1,5 @@
 //! What is done to a table's lines.
-ghost use Rattle.std.specs.Prelude.{◌≡◌, Bool, ◌*◌, ◌<◌, [], length, None, if◌then◌else◌, is_ok, nat_lt, slice_set, MatchResult};
+ghost use Rattle.std.specs.Prelude.{◌≡◌, Bool, ◌*◌, ◌<◌, [], length, Some, None, if◌then◌else◌, is_ok, nat_lt, slice_set, MatchResult};
 ghost use Rattle.std.specs.Option.{option_map};
 ghost use Rattle.rules.specs.Lists.{update, added, nth, oldest, without};
 ghost use Rattle.store.specs.Lines.{lines_of, found_of};
@@ -84,14 +84,25 @@ impl<E: Kept, const ROOM: usize, const SLOTS: usize> Table<E, ROOM, SLOTS> {
         }
     }
 
+    /// Takes the element at a place out of a level's line, and gives it: one has to stand there.
+    #[tactic(auto, using(crate::proofs::Lining::lines_taken, crate::proofs::Lining::taken_was, crate::proofs::Lining::length_lines))]
+    pub fn remove(&mut self, level: usize, place: usize) -> E
+        requires level { level < 8 }
+        requires within { place < length (lines_of E.told self.old level) }
+        ensures taken { Some (E.told result) ≡ nth (lines_of E.told self.old level) place }
+        ensures lines { lines_of E.told self.new ≡ update (lines_of E.told self.old) level (without place (lines_of E.told self.old level)) }
+    {
+        take_at(&mut self.slots, ROOM, level, place)
+    }
+
     /// Takes the element at a place out of a level's line, and gives it. Nothing happens where none stands there.
-    #[tactic(auto, using(crate::proofs::Lining::lines_taken, crate::proofs::Lining::none_taken, crate::proofs::Lining::taken_was, crate::proofs::Lining::nth_lines))]
+    #[tactic(auto, using(crate::proofs::Lining::lines_taken, crate::proofs::Lining::none_taken, crate::proofs::Lining::taken_was, crate::proofs::Lining::nth_lines, crate::proofs::Lining::within_lines))]
     pub fn take(&mut self, level: usize, place: usize) -> Option<E>
         requires { level < 8 }
         ensures taken { option_map E.told result ≡ nth (lines_of E.told self.old level) place }
         ensures lines { lines_of E.told self.new ≡ update (lines_of E.told self.old) level (without place (lines_of E.told self.old level)) }
     {
         entry_at(&self.slots, ROOM, level, place)?;
-        Some(take_at(&mut self.slots, ROOM, level, place))
+        Some(self.remove(level, place))
     }
 }
