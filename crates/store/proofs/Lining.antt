@@ -16,10 +16,15 @@ use Rattle.store.specs.Lines.{lines_of, found_of}
 
 -- OF LISTS
 
-pub nth-map : {X Y : Type 0} (f : X → Y) (xs : List X) (i : ℕ) → option_map f (nth_slot xs i) ≡ nth (map f xs) i
+pub nth-map : {X Y : Type 0} (f : X → Y) (xs : List X) (i : ℕ) → option_map f (nth xs i) ≡ nth (map f xs) i
 nth-map f [] i = refl
 nth-map f (x ∷ xs) zero = refl
 nth-map f (x ∷ xs) (suc i) = nth-map f xs i
+
+nth_slot-map : {X Y : Type 0} (f : X → Y) (xs : List X) (i : ℕ) → option_map f (nth_slot xs i) ≡ nth (map f xs) i
+nth_slot-map f [] i = refl
+nth_slot-map f (x ∷ xs) zero = refl
+nth_slot-map f (x ∷ xs) (suc i) = nth_slot-map f xs i
 
 nth-kept : {X Y : Type 0} (f : X → Y) (xs : List X) (i : ℕ) (x : X) → i < length xs → x ≡ get_or xs i x → Some (f x) ≡ nth (map f xs) i
 nth-kept f [] i x h e = absurd (omega arith)
@@ -118,7 +123,7 @@ module _ {X Y : Type 0} {room slots : ℕ} (f : X → Y) where
 
   pub nth_lines : (table : Table X room slots) (level place : ℕ) → option_map f (nth_slot (at table level) place) ≡ nth (lines_of f table level) place
   unfolding lines_of
-  nth_lines table level place = nth-map f (at table level) place
+  nth_lines table level place = nth_slot-map f (at table level) place
 
   -- past the eighth level nothing stands
   pub nth_past : (table : Table X room slots) (level place : ℕ) → 8 ≤ level → nth (lines_of f table level) place ≡ None
