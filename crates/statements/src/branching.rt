@@ -1,9 +1,7 @@
 //! I: which branch it picks, and what it raises before.
-ghost use Rattle.std.specs.Prelude.{◌≡◌, ◌+◌, ◌≤◌, length, if◌then◌else◌};
-ghost use Rattle.std.specs.List.{list_any};
+ghost use Rattle.std.specs.Prelude.{◌≡◌, ◌+◌, ◌≤◌, length};
 ghost use Rattle.rules.specs.Values.{labelled};
 ghost use Rattle.rules.specs.Tables.{State};
-ghost use Rattle.rules.specs.Wrapper.{target, assigns};
 ghost use Rattle.rules.specs.Statements.{read, raise};
 ghost use Rattle.stepper.specs.declared.machine.Next.TheVariants.{Enter};
 ghost use Rattle.stepper.specs.Halves.{picked};
@@ -14,41 +12,17 @@ use crate::variables::Variables;
 use order::{Level, Order};
 use rules::values::{Labelled, Value};
 use script::class::{Statement, Variable};
-use std::array;
 use stepper::machine::Next;
 use wrapper::classes::assigned_by;
 
-/// Whether a statement assigns a variable.
-fn assigns(statement: Statement, x: Variable) -> bool
-    ensures { result ≡ assigns (target statement) x }
+/// What a variable holds once its label is raised.
+fn raised<O: Order>(order: &O, by: Level, variables: &Variables, x: Variable) -> Labelled
+    ensures { (σ : State) → result ≡ labelled (read (running_of variables.now σ) x).value ((O.Order.levels order.now).join (read (running_of variables.now σ) x).label by) }
 {
-    assigned_by(statement) == Some(x)
-}
-
-/// Whether one of the statements assigns a variable.
-fn any_assigns(statements: &[Statement], x: Variable) -> bool
-    ensures { result ≡ list_any (λ s. assigns (target s) x) statements.now }
-{
-    statements.iter().any(|statement| assigns(*statement, x))
-}
-
-/// What a variable holds once its label is raised, if one of the statements assigns it.
-fn raised<O: Order>(
-    order: &O,
-    by: Level,
-    statements: &[Statement],
-    x: Variable,
-    held: Labelled,
-) -> Labelled
-    ensures { result ≡ (if list_any (λ s. assigns (target s) x) statements.now then labelled held.value ((O.Order.levels order.now).join held.label by) else held) }
-{
-    if any_assigns(statements, x) {
-        Labelled {
-            label: order.join(held.label, by),
-            ..held
-        }
-    } else {
-        held
+    let held = variables.read(x);
+    Labelled {
+        label: order.join(held.label, by),
+        ..held
     }
 }
 
@@ -76,14 +50,13 @@ impl<'a> Step<'a> {
         let by = order.join(guard, self.context);
         let start = self.at + 1;
         let branches = &self.frame.body[start..start + count];
-        let Variables { locals, fields } = *variables;
-        // `as` fits: there are eight places of each kind.
-        variables.locals = array::from_fn(|i| {
-            raised(order, by, branches, Variable::Local(i as u8), locals[i])
-        });
-        variables.fields = array::from_fn(|i| {
-            raised(order, by, branches, Variable::Field(i as u8), fields[i])
-        });
+        // Each from what it held before, so that a variable that two statements assign is raised once.
+        let before = *variables;
+        for statement in branches {
+            if let Some(to) = assigned_by(*statement) {
+                variables.store(to, raised(order, by, &before, to));
+            }
+        }
     }
 
     /// I: raises what its branches assign, and leads into the first branch where the guard is a number other than 0, into the second where
