@@ -62,6 +62,10 @@ pub fn make_object<O: Order>(
     if !is_makeable(order, classes, home, class, level) {
         return Err(Refusal::NoFlow);
     }
+    // Before the object is made, which would be for nothing.
+    if tables.objects.count(usize::from(home)) >= 8 {
+        return Err(Refusal::Full);
+    }
     let fields = Floors::of(classes, class, home).first_fields(order);
     let object = Object {
         class,
