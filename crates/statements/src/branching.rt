@@ -44,7 +44,8 @@ impl<'a> Step<'a> {
         requires { self.now.at + 1 + count ≤ length self.now.frame.body.now }
         ensures { (σ : State) → running_of variables.new σ ≡ raise (O.Order.levels order.now) (program_of self.now.frame) (scene_of_frame self.now.frame) guard self.now.context (self.now.at + 1) count (running_of variables.old σ) }
     {
-        if order.flows(guard, self.context) {
+        // Without statements there is nothing to raise, and no need of the copy below.
+        if count == 0 || order.flows(guard, self.context) {
             return;
         }
         let by = order.join(guard, self.context);
