@@ -37,7 +37,7 @@ in_range_of body at n i h = get_or-take (at + n - at) (drop at body) i idle (ome
 abbrev pub lifted : Levels → ℕ → Labelled → Labelled
 lifted o by y = labelled y.value (o.join y.label by)
 
--- a place that is put, if it is i, with what is made of what i held
+-- where i is put with what f makes of what it held: whoever reads place k may look at what k held
 put_once : (f : Labelled → Labelled) (g h : ℕ → Labelled) (i k : ℕ) → update h i (f (g i)) k ≡ cond (nat_eq i k) (f (g k)) (h k)
 put_once f g h i k =
     elim (cases_eq i k) [
@@ -50,21 +50,21 @@ abbrev pub with_raised : Levels → (by : ℕ) → Option Variable → (before n
 with_raised o by None before now = now
 with_raised o by (Some x) before now = stored now x (lifted o by (read before x))
 
-pub raised_some : (o : Levels) (by : ℕ) (to : Option Variable) (before now after : Running) (x : Variable) (y : Labelled)
+pub put_some : (o : Levels) (by : ℕ) (to : Option Variable) (before now after : Running) (x : Variable) (y : Labelled)
     → to ≡ Some x → y ≡ lifted o by (read before x) → after ≡ stored now x y → after ≡ with_raised o by to before now
-raised_some o by to before now after x y e raise put = put ∙ ap (stored now x) raise ∙ ap (λ t. with_raised o by t before now) (sym e)
+put_some o by to before now after x y e raise put = put ∙ ap (stored now x) raise ∙ ap (λ t. with_raised o by t before now) (sym e)
 
-pub raised_none : (o : Levels) (by : ℕ) (to : Option Variable) (before now : Running) → ((x : Variable) → to ≡ Some x → ⊥)
+pub put_none : (o : Levels) (by : ℕ) (to : Option Variable) (before now : Running) → ((x : Variable) → to ≡ Some x → ⊥)
     → now ≡ with_raised o by to before now
-raised_none o by None before now h = refl
-raised_none o by (Some x) before now h = absurd (h x refl)
+put_none o by None before now h = refl
+put_none o by (Some x) before now h = absurd (h x refl)
 
 same_running : (f g h k : ℕ → Labelled) (σ : State) → f ≡ g → h ≡ k
     → ◌≡◌ {A = Running} (record { locals = f; fields = h; tables = σ }) (record { locals = g; fields = k; tables = σ })
 same_running f g h k σ d e = ap (λ x. record { locals = x; fields = h; tables = σ }) d ∙ ap (λ x. record { locals = g; fields = x; tables = σ }) e
 
 module _ (o : Levels) (program : Program) (scene : Scene) (g context by : ℕ) (flows : false ≡ o.flow g context) (joined : by ≡ o.join g context) where
-  -- a test more
+  -- raised by one test or another: raised by the other, and else by the first
   raised_or : (b c : Bool) (x : Labelled)
       → raised o program scene g context (b || c) x ≡ cond c (lifted o by x) (raised o program scene g context b x)
   raised_or b c x =
@@ -79,6 +79,7 @@ module _ (o : Levels) (program : Program) (scene : Scene) (g context by : ℕ) (
       either false false = refl
 
   module _ (start n : ℕ) where
+    -- one place, with one statement more
     one_more : (to : Option Variable) → to ≡ target (get_or scene.body (start + n) idle) → (x : Variable) (y : Labelled)
         → cond (assigns to x) (lifted o by y) (raised o program scene g context (assigned scene.body start n x) y)
         ≡ raised o program scene g context (assigned scene.body start (suc n) x) y
@@ -87,7 +88,7 @@ module _ (o : Levels) (program : Program) (scene : Scene) (g context by : ℕ) (
         ∙ ap (λ t. raised o program scene g context (assigned scene.body start n x || assigns t x) y) e
         ∙ ap (λ b. raised o program scene g context b y) (sym (assigned_more scene.body start n x))
 
-    -- one statement more
+    -- all places, with one statement more
     raise_more : (to : Option Variable) → to ≡ target (get_or scene.body (start + n) idle) → (r : Running)
         → with_raised o by to r (raise o program scene g context start n r) ≡ raise o program scene g context start (suc n) r
     raise_more None e r =
@@ -101,6 +102,7 @@ module _ (o : Levels) (program : Program) (scene : Scene) (g context by : ℕ) (
         (fun_ext (λ k. one_more (Some (Field i)) e (Local k) (r.locals k)))
         (fun_ext (λ k. put_once (lifted o by) r.fields (raise o program scene g context start n r).fields i k ∙ one_more (Some (Field i)) e (Field k) (r.fields k)))
 
+    -- the same, of what the loop holds before and after the statement
     pub raise_next : (to : Option Variable) → to ≡ target (get_or scene.body (start + n) idle) → (before now after : Running)
         → now ≡ raise o program scene g context start n before → after ≡ with_raised o by to before now
         → after ≡ raise o program scene g context start (n + 1) before

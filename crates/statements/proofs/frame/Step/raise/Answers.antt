@@ -3,7 +3,7 @@ use Rattle.rules.specs.Wrapper.{target}
 use Rattle.rules.specs.Statements.{raise}
 use Rattle.statements.specs.Turning.{running_of, program_of, scene_of_frame}
 use Rattle.statements.proofs.Ranges.{assigned_fits}
-use Rattle.statements.proofs.Raising.{in_range_of, with_raised, raised_some, raised_none, raise_next}
+use Rattle.statements.proofs.Raising.{in_range_of, with_raised, put_some, put_none, raise_next}
 use Rattle.statements.proofs.frame.Step.raise.Goals as goal
 use Rattle.statements.proofs.frame.Step.raise.Goals.{in-Some, in_default}
 
@@ -30,8 +30,8 @@ loop-statement-preserved g c = λ σ.
     (c.assigned_by.ensures ∙ ap target (in_range_of s.frame.body.now (s.at + 1) c.args.count i (omega arith)))
     before now after (c.loop-statement.invariant σ) (elim c.match-assigned_by.branch as (λ _. after ≡ with_raised o by to before now) [
       | in-Some w ↦
-          raised_some o by to before now after w.in-Some.to w.raised.result w.in-Some.is (w.raised.ensures σ) (ap (λ v. running_of v σ) w.variables-is ∙ w.store.ensures σ)
-      | in_default w ↦ ap (λ v. running_of v σ) w.variables-is ∙ raised_none o by to before now w.in_default.not-Some
+          put_some o by to before now after w.in-Some.to w.raised.result w.in-Some.is (w.raised.ensures σ) (ap (λ v. running_of v σ) w.variables-is ∙ w.store.ensures σ)
+      | in_default w ↦ ap (λ v. running_of v σ) w.variables-is ∙ put_none o by to before now w.in_default.not-Some
     ])
 
 pub returns : goal.returns
