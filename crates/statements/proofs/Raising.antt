@@ -29,17 +29,17 @@ assigned_more body at (suc n) x =
     ∙ sym (or_assoc (assigns (target (get_or body at idle)) x) (assigned body (suc at) n x) (assigns (target (get_or body (suc at + n) idle)) x))
     ∙ ap (λ j. assigned body at (suc n) x || assigns (target (get_or body j idle)) x) same
 
--- what stands at a place of a range
-pub in_range_of : (body : List Statement) (at n i : ℕ) → i < n → get_or (take (at + n - at) (drop at body)) i idle ≡ get_or body (at + i) idle
-in_range_of body at n i h = get_or-take (at + n - at) (drop at body) i idle (omega arith) ∙ get_or-drop at body i idle
+-- a statement of a slice of the body, by its place in the body
+pub slice_item : (body : List Statement) (at n i : ℕ) → i < n → get_or (take (at + n - at) (drop at body)) i idle ≡ get_or body (at + i) idle
+slice_item body at n i h = get_or-take (at + n - at) (drop at body) i idle (omega arith) ∙ get_or-drop at body i idle
 
 -- a value with its label raised
 abbrev pub lifted : Levels → ℕ → Labelled → Labelled
 lifted o by y = labelled y.value (o.join y.label by)
 
--- where i is put with what f makes of what it held: whoever reads place k may look at what k held
-put_once : (f : Labelled → Labelled) (g h : ℕ → Labelled) (i k : ℕ) → update h i (f (g i)) k ≡ cond (nat_eq i k) (f (g k)) (h k)
-put_once f g h i k =
+-- what f makes of i's value in g is put at i in h: at any place k, f may as well be given k's value in g
+update_from : (f : Labelled → Labelled) (g h : ℕ → Labelled) (i k : ℕ) → update h i (f (g i)) k ≡ cond (nat_eq i k) (f (g k)) (h k)
+update_from f g h i k =
     elim (cases_eq i k) [
       | inl same ↦ ap (λ j. cond (nat_eq i k) (f (g j)) (h k)) same
       | inr other ↦ ap (λ b. cond b (f (g i)) (h k)) (ne_eqb i k other) ∙ ap (λ b. cond b (f (g k)) (h k)) (sym (ne_eqb i k other))
@@ -50,14 +50,14 @@ abbrev pub with_raised : Levels → (by : ℕ) → Option Variable → (before n
 with_raised o by None before now = now
 with_raised o by (Some x) before now = stored now x (lifted o by (read before x))
 
-pub put_some : (o : Levels) (by : ℕ) (to : Option Variable) (before now after : Running) (x : Variable) (y : Labelled)
+pub with_raised_some : (o : Levels) (by : ℕ) (to : Option Variable) (before now after : Running) (x : Variable) (y : Labelled)
     → to ≡ Some x → y ≡ lifted o by (read before x) → after ≡ stored now x y → after ≡ with_raised o by to before now
-put_some o by to before now after x y e raise put = put ∙ ap (stored now x) raise ∙ ap (λ t. with_raised o by t before now) (sym e)
+with_raised_some o by to before now after x y e higher put = put ∙ ap (stored now x) higher ∙ ap (λ t. with_raised o by t before now) (sym e)
 
-pub put_none : (o : Levels) (by : ℕ) (to : Option Variable) (before now : Running) → ((x : Variable) → to ≡ Some x → ⊥)
+pub with_raised_none : (o : Levels) (by : ℕ) (to : Option Variable) (before now : Running) → ((x : Variable) → to ≡ Some x → ⊥)
     → now ≡ with_raised o by to before now
-put_none o by None before now h = refl
-put_none o by (Some x) before now h = absurd (h x refl)
+with_raised_none o by None before now h = refl
+with_raised_none o by (Some x) before now h = absurd (h x refl)
 
 same_running : (f g h k : ℕ → Labelled) (σ : State) → f ≡ g → h ≡ k
     → ◌≡◌ {A = Running} (record { locals = f; fields = h; tables = σ }) (record { locals = g; fields = k; tables = σ })
@@ -95,12 +95,12 @@ module _ (o : Levels) (program : Program) (scene : Scene) (g context by : ℕ) (
         same_running _ _ _ _ r.tables (fun_ext (λ k. one_more None e (Local k) (r.locals k))) (fun_ext (λ k. one_more None e (Field k) (r.fields k)))
     raise_more (Some (Local i)) e r =
         same_running _ _ _ _ r.tables
-        (fun_ext (λ k. put_once (lifted o by) r.locals (raise o program scene g context start n r).locals i k ∙ one_more (Some (Local i)) e (Local k) (r.locals k)))
+        (fun_ext (λ k. update_from (lifted o by) r.locals (raise o program scene g context start n r).locals i k ∙ one_more (Some (Local i)) e (Local k) (r.locals k)))
         (fun_ext (λ k. one_more (Some (Local i)) e (Field k) (r.fields k)))
     raise_more (Some (Field i)) e r =
         same_running _ _ _ _ r.tables
         (fun_ext (λ k. one_more (Some (Field i)) e (Local k) (r.locals k)))
-        (fun_ext (λ k. put_once (lifted o by) r.fields (raise o program scene g context start n r).fields i k ∙ one_more (Some (Field i)) e (Field k) (r.fields k)))
+        (fun_ext (λ k. update_from (lifted o by) r.fields (raise o program scene g context start n r).fields i k ∙ one_more (Some (Field i)) e (Field k) (r.fields k)))
 
     -- the same, of what the loop holds before and after the statement
     pub raise_next : (to : Option Variable) → to ≡ target (get_or scene.body (start + n) idle) → (before now after : Running)

@@ -62,7 +62,7 @@ pub fn make_object<O: Order>(
     if !is_makeable(order, classes, home, class, level) {
         return Err(Refusal::NoFlow);
     }
-    // Asked before the object is made, which would be for nothing; `add` asks once more.
+    // Asked before the object is made, which in a full home would be for nothing; `add` asks once more.
     if tables.objects.count(usize::from(home)) >= 8 {
         return Err(Refusal::Full);
     }

@@ -3,7 +3,7 @@ use Rattle.rules.specs.Wrapper.{target}
 use Rattle.rules.specs.Statements.{raise}
 use Rattle.statements.specs.Turning.{running_of, program_of, scene_of_frame}
 use Rattle.statements.proofs.Ranges.{assigned_fits}
-use Rattle.statements.proofs.Raising.{in_range_of, with_raised, put_some, put_none, raise_next}
+use Rattle.statements.proofs.Raising.{slice_item, with_raised, with_raised_some, with_raised_none, raise_next}
 use Rattle.statements.proofs.frame.Step.raise.Goals as goal
 use Rattle.statements.proofs.frame.Step.raise.Goals.{in-Some, in_default}
 
@@ -13,7 +13,7 @@ store-requires g c =
     let start = c.args.self.now.at + 1 in
     let i = c.loop-statement.statement-index in
     let short : start + c.args.count ≤ length f.body.now = c.requires in
-    let e = c.assigned_by.ensures ∙ ap target (in_range_of f.body.now start c.args.count i (omega arith)) in
+    let e = c.assigned_by.ensures ∙ ap target (slice_item f.body.now start c.args.count i (omega arith)) in
     assigned_fits (length f.fields.now) f.body.now (start + i) c.assigned_by.result e f.ranges c.in-Some.to c.in-Some.is
 
 pub loop-statement-preserved : goal.loop-statement-preserved
@@ -27,11 +27,11 @@ loop-statement-preserved g c = λ σ.
     let now = running_of c.loop-statement.variables σ in
     let after = running_of c.match-assigned_by.variables σ in
     raise_next o (program_of s.frame) (scene_of_frame s.frame) c.args.guard s.context by c.if-flows.ensures c.join-by.ensures (s.at + 1) i to
-    (c.assigned_by.ensures ∙ ap target (in_range_of s.frame.body.now (s.at + 1) c.args.count i (omega arith)))
+    (c.assigned_by.ensures ∙ ap target (slice_item s.frame.body.now (s.at + 1) c.args.count i (omega arith)))
     before now after (c.loop-statement.invariant σ) (elim c.match-assigned_by.branch as (λ _. after ≡ with_raised o by to before now) [
       | in-Some w ↦
-          put_some o by to before now after w.in-Some.to w.raised.result w.in-Some.is (w.raised.ensures σ) (ap (λ v. running_of v σ) w.variables-is ∙ w.store.ensures σ)
-      | in_default w ↦ ap (λ v. running_of v σ) w.variables-is ∙ put_none o by to before now w.in_default.not-Some
+          with_raised_some o by to before now after w.in-Some.to w.raised.result w.in-Some.is (w.raised.ensures σ) (ap (λ v. running_of v σ) w.variables-is ∙ w.store.ensures σ)
+      | in_default w ↦ ap (λ v. running_of v σ) w.variables-is ∙ with_raised_none o by to before now w.in_default.not-Some
     ])
 
 pub returns : goal.returns

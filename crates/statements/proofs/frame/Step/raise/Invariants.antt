@@ -4,7 +4,7 @@ use Rattle.rules.specs.Statements.{raise}
 use Rattle.statements.specs.Turning.{running_of, program_of, scene_of_frame}
 use Rattle.statements.proofs.frame.Step.raise.Given as goal
 
--- as many statements are looked at as the rules' `raise` is of
+-- the variables are what the rules' `raise` makes of the statements looked at so far
 abbrev pub invariant-loop-statement : goal.invariant-loop-statement
 invariant-loop-statement g l =
     (σ : State) → running_of l.variables σ
